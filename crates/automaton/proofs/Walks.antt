@@ -23,3 +23,21 @@ module _ {L : Type 0} {admits : L → Set} {arcs : List (Arc L)} where
 
   pub walk-one : {c : ℕ} (a : Arc L) → Has arcs a → admits (a .label) c ≡ true → Walk admits arcs (a .from) (c ∷ []) (a .to)
   walk-one a has yes′ = step a has refl yes′ stay
+
+  -- one arc more at the end of a walk
+  pub walk-push : {p q c : ℕ} {u : Word} (a : Arc L) → Walk admits arcs p u q → Has arcs a → a .from ≡ q → admits (a .label) c ≡ true → Walk admits arcs p (u ++ c ∷ []) (a .to)
+  walk-push a h has from yes′ = walk-append h (step a has from yes′ stay)
+
+  -- a walk of one letter takes one arc
+  pub walk-letter : {q c r : ℕ} → Walk admits arcs q (c ∷ []) r → (a : Arc L) × Has arcs a × (a .from ≡ q) × (admits (a .label) c ≡ true) × (a .to ≡ r)
+  walk-letter (step a has from yes′ stay) = (a, has, from, yes′, refl)
+
+-- arcs that lead inside lead no walk outside
+pub walk-inside : {L : Type 0} {admits : L → Set} (m : Automaton L) → Inside m → {p q : ℕ} {w : Word} → Walk admits (m .arcs) p w q → p < length (m .states) → q < length (m .states)
+walk-inside m inside stay low = low
+walk-inside m inside (step a has from yes′ h) low = walk-inside m inside h (inside a has .1)
+
+-- an automaton over an alphabet accepts words of its letters alone
+pub walk-letters : {L : Type 0} (a : Labels L) → Lawful a → {arcs : List (Arc L)} {p q : ℕ} {w : Word} → Walk (a .admits) arcs p w q → All (λ c. c < a .letters) w
+walk-letters a laws stay = tt
+walk-letters a laws (step {c} b has from yes′ h) = (laws .within (b .label) c yes′, walk-letters a laws h)

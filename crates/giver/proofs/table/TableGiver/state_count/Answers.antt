@@ -1,0 +1,6 @@
+use mathlib.Core.Path.{sym}
+use Rattle.std.proofs.shelf.Lists.{length-map}
+use Rattle.giver.proofs.table.TableGiver.state_count.Needs as need
+
+pub returns : need.returns
+returns g c = sym (length-map (c .args .self .now .states .now) (λ s. s .marks))
