@@ -18,7 +18,9 @@ pub impl Alphabet for Modem as ModemAlphabet {
     ghost labels = { modem };
 
     fn full() -> ModemLabel {
-        ModemLabel { marks: [true; LETTERS] }
+        ModemLabel {
+            marks: [true; LETTERS],
+        }
     }
 
     fn admits(label: &ModemLabel, letter: u32) -> bool {

@@ -20,7 +20,10 @@ pub impl Alphabet for Text as TextAlphabet {
     ghost labels = { text };
 
     fn full() -> TextLabel {
-        TextLabel { lo: 0, hi: LETTERS - 1 }
+        TextLabel {
+            lo: 0,
+            hi: LETTERS - 1,
+        }
     }
 
     fn admits(label: &TextLabel, letter: u32) -> bool {

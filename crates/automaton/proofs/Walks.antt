@@ -24,6 +24,9 @@ module _ {L : Type 0} {admits : L → Set} {arcs : List (Arc L)} where
   pub walk-one : {c : ℕ} (a : Arc L) → Has arcs a → admits (a .label) c ≡ true → Walk admits arcs (a .from) (c ∷ []) (a .to)
   walk-one a has yes′ = step a has refl yes′ stay
 
+  pub walk-nil : {p q : ℕ} → Walk admits arcs p [] q → p ≡ q
+  walk-nil stay = refl
+
   -- one arc more at the end of a walk
   pub walk-push : {p q c : ℕ} {u : Word} (a : Arc L) → Walk admits arcs p u q → Has arcs a → a .from ≡ q → admits (a .label) c ≡ true → Walk admits arcs p (u ++ c ∷ []) (a .to)
   walk-push a h has from yes′ = walk-append h (step a has from yes′ stay)

@@ -1,10 +1,10 @@
 // A giver of a fixed text: it accepts that one word.
 ghost use denote.Ref.{now};
 ghost use Rattle.giver.specs.Fixed.{chain};
+use crate::Giver;
 use alphabet::RangedAlphabet;
 use automaton::Arc;
 use automaton::Marks;
-use crate::Giver;
 
 #[derive(Clone, Copy)]
 pub struct FixedText<'a> {

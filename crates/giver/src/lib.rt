@@ -8,8 +8,9 @@ use alphabet::Alphabet;
 use automaton::Arc;
 use automaton::Marks;
 
-pub mod table;
+pub mod accepts;
 pub mod fixed;
+pub mod table;
 
 // Why an automaton is refused.
 #[derive(Clone, Copy)]

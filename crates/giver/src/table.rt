@@ -1,11 +1,11 @@
 // A giver over a table of rows. Its arcs may lead outside its states.
 ghost use denote.Ref.{now};
 ghost use Rattle.automaton.specs.Automaton.{of-rows};
+use crate::Giver;
 use alphabet::Alphabet;
 use automaton::Arc;
 use automaton::Marks;
 use automaton::State;
-use crate::Giver;
 
 #[derive(Clone, Copy)]
 pub struct Table<'a, A: Alphabet> {
