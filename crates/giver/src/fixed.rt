@@ -1,6 +1,7 @@
 // A giver of a fixed text: it accepts that one word.
 ghost use denote.Ref.{now};
-ghost use Rattle.giver.specs.Fixed.{chain};
+ghost use mathlib.Core.Path.{_≡_};
+ghost use Rattle.giver.specs.Fixed.{chain, AcceptsJust};
 use crate::Giver;
 use alphabet::RangedAlphabet;
 use automaton::Arc;
@@ -9,6 +10,16 @@ use automaton::Marks;
 #[derive(Clone, Copy)]
 pub struct FixedText<'a> {
     pub letters: &'a [u32],
+}
+
+impl<'a> FixedText<'a> {
+    // The giver of a text, over any ranged alphabet A.
+    pub fn new<A: RangedAlphabet>(letters: &'a [u32]) -> FixedText<'a>
+        ensures holds { λ r. ⌜ now (r .letters) ≡ now (letters .entry) ⌝ }
+        ensures accepts_just { λ _. ⌜ AcceptsJust (A·Alphabet .labels) (A·RangedAlphabet .between) (now (letters .entry)) ⌝ }
+    {
+        FixedText { letters }
+    }
 }
 
 pub impl<'a, A: RangedAlphabet> Giver<A> for FixedText<'a> as FixedTextGiver {
