@@ -16,18 +16,18 @@ pub trait Alphabet {
 
     // The label of all letters.
     fn full() -> Self::Label
-        ensures { λ r. ⌜ r ≡ labels .full ⌝ };
+        ensures is_full { λ r. ⌜ r ≡ labels .full ⌝ };
 
     fn admits(label: &Self::Label, letter: u32) -> bool
-        ensures { λ r. ⌜ r ≡ labels .admits (now (label .entry)) letter ⌝ };
+        ensures in_set { λ r. ⌜ r ≡ labels .admits (now (label .entry)) letter ⌝ };
 
     // The label of the letters that both admit.
     fn meet(a: &Self::Label, b: &Self::Label) -> Self::Label
-        ensures { λ r. ⌜ r ≡ labels .meet (now (a .entry)) (now (b .entry)) ⌝ };
+        ensures is_meet { λ r. ⌜ r ≡ labels .meet (now (a .entry)) (now (b .entry)) ⌝ };
 
     // The smallest letter that the label admits.
     fn first(label: &Self::Label) -> Option<u32>
-        ensures { λ r. ⌜ r ≡ labels .first (now (label .entry)) ⌝ };
+        ensures is_first { λ r. ⌜ r ≡ labels .first (now (label .entry)) ⌝ };
 }
 
 // An alphabet that also makes a label from two letters. The reader and fixed texts need it.
@@ -38,5 +38,5 @@ pub trait RangedAlphabet: Alphabet {
 
     // The label of the letters from lo to hi.
     fn range(lo: u32, hi: u32) -> Self::Label
-        ensures { λ r. ⌜ r ≡ between lo hi ⌝ };
+        ensures is_range { λ r. ⌜ r ≡ between lo hi ⌝ };
 }

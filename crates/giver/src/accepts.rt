@@ -19,7 +19,7 @@ pub const MAX_ARCS: usize = 4096;
 type StateSet = [bool; MAX_STATES];
 
 fn leads_inside<A: Alphabet, G: Giver<A>>(giver: &G) -> bool
-    ensures { λ r. ⌜ Decides r (Inside (G·Giver .automaton (now (giver .entry)))) ⌝ }
+    ensures decides { λ r. ⌜ Decides r (Inside (G·Giver .automaton (now (giver .entry)))) ⌝ }
 {
     let states = giver.state_count();
     for k in 0..giver.arc_count() {
@@ -33,7 +33,7 @@ fn leads_inside<A: Alphabet, G: Giver<A>>(giver: &G) -> bool
 
 // Refuses an automaton that is too large, and then one with an arc outside.
 pub fn check<A: Alphabet, G: Giver<A>>(giver: &G) -> Result<(), Refusal>
-    ensures { λ r. ⌜ Checked (G·Giver .automaton (now (giver .entry))) (λ _. Unit {0}) r ⌝ }
+    ensures checked { λ r. ⌜ Checked (G·Giver .automaton (now (giver .entry))) (λ _. Unit {0}) r ⌝ }
 {
     if giver.state_count() > MAX_STATES || giver.arc_count() > MAX_ARCS {
         return Err(Refusal::TooLarge);
@@ -46,7 +46,7 @@ pub fn check<A: Alphabet, G: Giver<A>>(giver: &G) -> Result<(), Refusal>
 
 fn start<A: Alphabet, G: Giver<A>>(giver: &G) -> StateSet
     requires { ⌜ Sound (G·Giver .automaton (now giver)) ⌝ }
-    ensures { λ r. ⌜ Reached (A·Alphabet .labels .admits) (G·Giver .automaton (now (giver .entry))) [] r ⌝ }
+    ensures reaches { λ r. ⌜ Reached (A·Alphabet .labels .admits) (G·Giver .automaton (now (giver .entry))) [] r ⌝ }
 {
     let mut set = [false; MAX_STATES];
     for q in 0..giver.state_count() {
@@ -57,7 +57,7 @@ fn start<A: Alphabet, G: Giver<A>>(giver: &G) -> StateSet
 
 fn step<A: Alphabet, G: Giver<A>>(giver: &G, before: &StateSet, letter: u32) -> StateSet
     requires { ⌜ Sound (G·Giver .automaton (now giver)) ⌝ }
-    ensures { λ r. ⌜ Stepped (A·Alphabet .labels .admits) (G·Giver .automaton (now (giver .entry))) letter (now (before .entry)) r ⌝ }
+    ensures steps { λ r. ⌜ Stepped (A·Alphabet .labels .admits) (G·Giver .automaton (now (giver .entry))) letter (now (before .entry)) r ⌝ }
 {
     let mut after = [false; MAX_STATES];
     for k in 0..giver.arc_count() {
@@ -71,7 +71,7 @@ fn step<A: Alphabet, G: Giver<A>>(giver: &G, before: &StateSet, letter: u32) -> 
 
 fn some_accepts<A: Alphabet, G: Giver<A>>(giver: &G, set: &StateSet) -> bool
     requires { ⌜ Sound (G·Giver .automaton (now giver)) ⌝ }
-    ensures { λ r. ⌜ Decides r (SomeAccepts (G·Giver .automaton (now (giver .entry))) (now (set .entry))) ⌝ }
+    ensures decides { λ r. ⌜ Decides r (SomeAccepts (G·Giver .automaton (now (giver .entry))) (now (set .entry))) ⌝ }
 {
     for q in 0..giver.state_count() {
         if set[q] && giver.marks(q).accepting {
@@ -83,7 +83,7 @@ fn some_accepts<A: Alphabet, G: Giver<A>>(giver: &G, set: &StateSet) -> bool
 
 // Whether the automaton accepts the word.
 pub fn accepts<A: Alphabet, G: Giver<A>>(giver: &G, word: &[u32]) -> Result<bool, Refusal>
-    ensures { λ r. ⌜ Checked (G·Giver .automaton (now (giver .entry)))
+    ensures decides_acceptance { λ r. ⌜ Checked (G·Giver .automaton (now (giver .entry)))
         (λ b. Decides b (Accepts (A·Alphabet .labels .admits) (G·Giver .automaton (now (giver .entry))) (now (word .entry)))) r ⌝ }
 {
     check(giver)?;

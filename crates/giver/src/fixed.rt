@@ -7,7 +7,7 @@ use alphabet::RangedAlphabet;
 use automaton::Arc;
 use automaton::Marks;
 
-#[derive(Clone, Copy)]
+#[derive(Drop)]
 pub struct FixedText<'a> {
     pub letters: &'a [u32],
 }

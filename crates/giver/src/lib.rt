@@ -23,7 +23,7 @@ pub enum Refusal {
 
 impl Refusal {
     pub fn number(self) -> u32
-        ensures { λ r. ⌜ r ≡ number self ⌝ }
+        ensures is_number { λ r. ⌜ r ≡ number self ⌝ }
     {
         match self {
             Refusal::TooLarge => 3,
@@ -36,16 +36,16 @@ pub trait Giver<A: Alphabet> {
     ghost automaton: { Self → Automaton A·Label };
 
     fn state_count(&self) -> usize
-        ensures { λ r. ⌜ r ≡ length (automaton (now (self .entry)) .states) ⌝ };
+        ensures counts_states { λ r. ⌜ r ≡ length (automaton (now (self .entry)) .states) ⌝ };
 
     fn arc_count(&self) -> usize
-        ensures { λ r. ⌜ r ≡ length (automaton (now (self .entry)) .arcs) ⌝ };
+        ensures counts_arcs { λ r. ⌜ r ≡ length (automaton (now (self .entry)) .arcs) ⌝ };
 
     // The marks of a state; past the last state none.
     fn marks(&self, state: usize) -> Marks
-        ensures { λ r. ⌜ r ≡ marks-at (automaton (now (self .entry))) state ⌝ };
+        ensures tells_marks { λ r. ⌜ r ≡ marks-at (automaton (now (self .entry))) state ⌝ };
 
     // An arc; past the last one from 0 to 0 on the full label.
     fn arc(&self, k: usize) -> Arc<A::Label>
-        ensures { λ r. ⌜ r ≡ arc-at (A·Alphabet .labels) (automaton (now (self .entry))) k ⌝ };
+        ensures tells_arc { λ r. ⌜ r ≡ arc-at (A·Alphabet .labels) (automaton (now (self .entry))) k ⌝ };
 }

@@ -7,7 +7,7 @@ use automaton::Arc;
 use automaton::Marks;
 use automaton::State;
 
-#[derive(Clone, Copy)]
+#[derive(Drop)]
 pub struct Table<'a, A: Alphabet> {
     pub states: &'a [State],
     pub arcs: &'a [Arc<A::Label>],

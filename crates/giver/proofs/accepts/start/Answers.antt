@@ -20,12 +20,14 @@ loop-q-again g c =
     let q = c .loop-q .q in
     let set = c .loop-q .set in (
       simp length-set (inv .0),
-      below-more _ _ (λ p low. getD-set-other set q p _ _ (λ e. omega arith) ∙ inv .1 p low) (getD-set-same set q _ _ (omega arith) ∙ ap (λ s. s .initial) (c .marks .ensures)),
+      below-more _ _ (λ p low. getD-set-other set q p _ _ (λ e. omega arith) ∙ inv .1 p low) (getD-set-same set q _ _ (omega arith) ∙ ap (λ s. s .initial) (c .marks .ensures .tells-marks)),
       λ p high. getD-set-other set q p _ _ (λ e. omega arith) ∙ inv .2 p (omega arith),
     )
 
 pub returns : need.returns
 returns g c =
     let m = g .G·Giver .automaton (c .args .giver .now) in
-    reached-start m (c .loop-q .set) (c .loop-q .inv .0)
-    (λ q. ⊎-elim (λ low. c .loop-q .inv .1 q low) (λ high. c .loop-q .inv .2 q high ∙ sym (initial-past m q (omega arith))) (cases-lt q (c .loop-q .q)))
+    record {
+      reaches = reached-start m (c .loop-q .set) (c .loop-q .inv .0)
+          (λ q. ⊎-elim (λ low. c .loop-q .inv .1 q low) (λ high. c .loop-q .inv .2 q high ∙ sym (initial-past m q (omega arith))) (cases-lt q (c .loop-q .q)));
+    }

@@ -3,4 +3,5 @@ use Rattle.alphabet.proofs.Marking.{marking-all}
 use Rattle.alphabet.proofs.modem.ModemRanged.range.Needs as need
 
 pub returns : need.returns
-returns c = marking-all _ (c .loop-c .marks) (c .loop-c .inv .0) (λ k h. c .loop-c .inv .1 k (omega arith))
+returns c =
+    record { is-range = marking-all _ (c .loop-c .marks) (c .loop-c .inv .0) (λ k h. c .loop-c .inv .1 k (omega arith)) }

@@ -3,4 +3,5 @@ use Rattle.giver.proofs.Chain.{chain-marks-at}
 use Rattle.giver.proofs.fixed.FixedTextGiver.marks.Needs as need
 
 pub returns : need.returns
-returns g c = chain-marks-at (length (c .args .self .now .letters .now)) (c .args .state)
+returns g c =
+    record { tells-marks = chain-marks-at (length (c .args .self .now .letters .now)) (c .args .state) }

@@ -4,5 +4,7 @@ use Rattle.giver.proofs.table.TableGiver.arc.Needs as need
 
 pub returns-in-None : need.returns-in-None
 returns-in-None g c =
-    ap (λ (l : g .A·Label .Denot). record { from = 0; label = l; to = 0 }) (c .full .ensures)
-    ∙ sym (getD-past (c .args .self .now .arcs .now) (c .args .k) _ (c .in-None .ensures tt .finds .3))
+    record {
+      tells-arc = ap (λ (l : g .A·Label .Denot). record { from = 0; label = l; to = 0 }) (c .full .ensures .is-full)
+          ∙ sym (getD-past (c .args .self .now .arcs .now) (c .args .k) _ (c .in-None .ensures tt .finds .3));
+    }
