@@ -2,7 +2,7 @@
 use mathlib.Core.Path.{_≡_, refl, sym, ap, subst, _∙_}
 use mathlib.Core.Bool.{true, _&&_}
 use mathlib.Core.List.{List, [], _∷_}
-use mathlib.Core.Logic.{_↔_}
+use mathlib.Core.Logic.{_↔_, inl, inr}
 use Prim.Native.Nat.{ℕ, suc, _+_, _≤_, _<_}
 use native.Mathlib.Nat.{zero-add, add-zero}
 use native.Mathlib.Omega.{arith}
@@ -13,16 +13,37 @@ use Rattle.std.proofs.shelf.Lists.{drop-more, drop-all}
 use Rattle.std.proofs.shelf.Tests.{and-parts, and-from, ltb-true, lt-ltb, leb-true, le-leb, eqb-true, eq-eqb}
 use Rattle.alphabet.specs.Labels.{Labels, Lawful, Ranged, from-to}
 use Rattle.automaton.specs.declared.Arc.{Arc}
-use Rattle.automaton.specs.Automaton.{Word, Walk, stay, step, Accepts}
+use Rattle.automaton.specs.Automaton.{Automaton, Word, Walk, stay, step, Accepts, Inside}
 use Rattle.automaton.proofs.Walks.{walk-letters}
+use Rattle.giver.specs.Told.{Sound, Cause}
 use Rattle.giver.specs.Fixed.{chain, chain-arcs, AcceptsJust}
-use Rattle.giver.proofs.Chain.{link, length-chain-arcs, getD-chain-arcs, chain-marks-at}
+use Rattle.giver.proofs.Chain.{link, length-chain-arcs, getD-chain-arcs, length-chain-marks, chain-marks-at}
 
 has-head : {X : Type 0} (x : X) (xs : List X) → Has (x ∷ xs) x
 has-head x xs = (0, omega arith, λ d. refl)
 
 has-tail : {X : Type 0} (x : X) (xs : List X) (y : X) → Has xs y → Has (x ∷ xs) y
 has-tail x xs y h = (suc (h .0), omega (arith, h .1), λ d. h .2 d)
+
+-- the arcs of a text lead from state to state
+pub chain-inside : {L : Type 0} (range : ℕ → ℕ → L) (text : Word) → Inside (chain range text)
+chain-inside range text b has =
+    let i = has .0 in
+    let n = length-chain-marks (length text) in
+    let low : i < length text = omega (arith, has .1, length-chain-arcs range 0 text) in
+    let is : b ≡ link range i (getD text i 0) = sym (has .2 b) ∙ getD-chain-arcs range 0 text i b low ∙ ap (λ k. link range k (getD text i 0)) (zero-add i) in
+    let from = ap (λ x. x .from) is in
+    let to = ap (λ x. x .to) is in
+    (omega arith, omega arith)
+
+pub chain-sound : {L : Type 0} (range : ℕ → ℕ → L) (text : Word) → length text ≤ 255 → Sound (chain range text)
+chain-sound range text h =
+    ((omega (arith, length-chain-marks (length text)), omega (arith, length-chain-arcs range 0 text)), chain-inside range text)
+
+-- a sound automaton has no cause of a refusal
+pub never-refused : {L : Type 0} (m : Automaton L) (n : ℕ) → Sound m → Cause m n → ⊥
+never-refused m n sound (inl large) = large .1 (sound .0)
+never-refused m n sound (inr outside) = outside .2 (sound .1)
 
 module _ {L : Type 0} {a : Labels L} {range : ℕ → ℕ → L} (laws : Lawful a) (ranged : Ranged a range) where
   -- the label of one letter admits that letter, if the alphabet has it

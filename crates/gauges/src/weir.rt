@@ -1,0 +1,67 @@
+// The weir station: what its logger waits for, and the level that it should send.
+ghost use mathlib.Core.Path.{_≡_};
+ghost use mathlib.Core.List.{[], _∷_};
+ghost use Rattle.std.specs.Orderings.{Decides};
+ghost use Rattle.gauges.specs.Replies.{Awaited};
+use alphabet::Alphabet;
+use alphabet::RangedAlphabet;
+use alphabet::modem::Modem;
+use alphabet::modem::ModemAlphabet;
+use alphabet::modem::ModemRanged;
+use automaton::Arc;
+use automaton::Marks;
+use automaton::State;
+use giver::accepts::accepts;
+use giver::fixed::FixedText;
+use giver::fixed::FixedTextGiver;
+use giver::table::Table;
+use giver::table::TableGiver;
+
+const LEVEL: [u32; 4] = [52, 46, 50, 49];
+
+fn state(initial: bool, accepting: bool) -> State
+    ensures marked { λ r. ⌜ r .marks ≡ record { initial = initial; accepting = accepting } ⌝ }
+{
+    State {
+        marks: Marks { initial, accepting },
+        left: 0,
+        right: 0,
+    }
+}
+
+// The wait: a digit, then anything.
+pub fn awaits(reply: &[u32]) -> bool
+    ensures decides { λ r. ⌜ Decides r (Awaited (now (reply .entry))) ⌝ }
+{
+    let states = [state(true, false), state(false, true)];
+    let digit = Arc {
+        from: 0,
+        label: Modem::range(48, 57),
+        to: 1,
+    };
+    let anything = Arc {
+        from: 1,
+        label: Modem::full(),
+        to: 1,
+    };
+    let arcs = [digit, anything];
+    let wait = Table {
+        states: &states,
+        arcs: &arcs,
+    };
+    match accepts::<Modem, Table<'_, Modem>>(&wait, reply) {
+        Ok(accepted) => accepted,
+        Err(_) => false,
+    }
+}
+
+// Whether the reply is the text "4.21".
+pub fn is_level(reply: &[u32]) -> bool
+    ensures decides { λ r. ⌜ Decides r (now (reply .entry) ≡ 52 ∷ 46 ∷ 50 ∷ 49 ∷ []) ⌝ }
+{
+    let level = FixedText::new::<Modem>(&LEVEL);
+    match accepts::<Modem, FixedText<'_>>(&level, reply) {
+        Ok(accepted) => accepted,
+        Err(_) => false,
+    }
+}
