@@ -34,17 +34,17 @@ marked-marking-below s below c = marked-marking s c ∙ go (s c) refl
     go true e = ap (λ t. t && s c) (lt-ltb c 128 (below c e))
     go false e = ap (λ t. ltb c 128 && t) e ∙ ⊎-elim (λ h. ap (λ t. t && false) h) (λ h. ap (λ t. t && false) h) (cases-bool (ltb c 128)) ∙ sym e
 
--- what a search among the n letters from c on finds
-Found : Set → ℕ → ℕ → ℕ → Type 0
-Found s c n m = (s m ≡ true) × ((k : ℕ) → c ≤ k → s k ≡ true → m ≤ k)
+-- m is the smallest letter of the set from c on
+Found : Set → ℕ → ℕ → Type 0
+Found s c m = (s m ≡ true) × ((k : ℕ) → c ≤ k → s k ≡ true → m ≤ k)
 
-finds : (s : Set) (c n : ℕ) → Cases (search-from s c n) ((k : ℕ) → c ≤ k → k < c + n → s k ≡ false) (Found s c n)
+finds : (s : Set) (c n : ℕ) → Cases (search-from s c n) ((k : ℕ) → c ≤ k → k < c + n → s k ≡ false) (Found s c)
 unfolding Found search-from
 finds s c zero = λ k low high. absurd (omega arith)
 finds s c (suc n) = go (search-from s (suc c) n) (finds s (suc c) n) (s c) refl
   where
-    go : (o : Option ℕ) → Cases o ((k : ℕ) → suc c ≤ k → k < suc c + n → s k ≡ false) (Found s (suc c) n) → (b : Bool) → s c ≡ b →
-        Cases (cond b (Some c) o) ((k : ℕ) → c ≤ k → k < c + suc n → s k ≡ false) (Found s c (suc n))
+    go : (o : Option ℕ) → Cases o ((k : ℕ) → suc c ≤ k → k < suc c + n → s k ≡ false) (Found s (suc c)) → (b : Bool) → s c ≡ b →
+        Cases (cond b (Some c) o) ((k : ℕ) → c ≤ k → k < c + suc n → s k ≡ false) (Found s c)
     go o h true e = (e, λ k low yes′. low)
     go None h false e = λ k low high. ⊎-elim (λ same. ap s (sym same) ∙ e) (λ other. h k (omega arith) (omega arith)) (cases-eq c k)
     go (Some m) h false e = (h .0, λ k low yes′. ⊎-elim (λ same. absurd (both-ways (s k) (ap s (sym same) ∙ e) yes′)) (λ other. h .1 k (omega arith) yes′) (cases-eq c k))
@@ -53,7 +53,7 @@ pub first-marked : (l : ModemLabel) → Cases (search-from (marked l) 0 128) (Em
 unfolding Found
 first-marked l = go (search-from (marked l) 0 128) (finds (marked l) 0 128)
   where
-    go : (o : Option ℕ) → Cases o ((k : ℕ) → 0 ≤ k → k < 0 + 128 → marked l k ≡ false) (Found (marked l) 0 128) → Cases o (Empty (marked l)) (Least (marked l))
+    go : (o : Option ℕ) → Cases o ((k : ℕ) → 0 ≤ k → k < 0 + 128 → marked l k ≡ false) (Found (marked l) 0) → Cases o (Empty (marked l)) (Least (marked l))
     go None h = λ c. ⊎-elim (λ low. h c (omega arith) low) (λ high. and-left _ _ (le-ltb c 128 high)) (cases-lt c 128)
     go (Some m) h = record { inside = h .0; smallest = λ c yes′. h .1 c (omega arith) yes′ }
 

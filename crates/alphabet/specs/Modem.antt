@@ -2,7 +2,7 @@
 use mathlib.Core.Bool.{true, false, cond, _&&_}
 use mathlib.Core.List.{map}
 use Prim.Native.Nat.{ℕ, zero, suc}
-use lib.Dec.{leb, ltb}
+use lib.Dec.{ltb}
 use lib.ListN.{getD}
 use Rattle.std.specs.Iters.{counting}
 use Rattle.std.specs.declared.option.Option.{Option}

@@ -7,7 +7,7 @@ pub const LETTERS: u32 = 196_608;
 
 pub struct Text;
 
-// The letters from lo to hi, both included. TextLabel past the last letter are allowed.
+// The letters from lo to hi, both included. Ends past the last letter are allowed.
 #[derive(Clone, Copy)]
 pub struct TextLabel {
     pub lo: u32,

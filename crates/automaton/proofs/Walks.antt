@@ -1,13 +1,13 @@
 -- Laws of walks and of acceptance.
-use mathlib.Core.Path.{_≡_, refl, sym, ap, subst, _∙_}
-use mathlib.Core.Bool.{Bool, true, false}
+use mathlib.Core.Path.{_≡_, refl}
+use mathlib.Core.Bool.{true}
 use mathlib.Core.List.{List, [], _∷_, _++_}
 use Prim.Native.Nat.{ℕ, _<_}
 use lib.ListN.{length}
 use Rattle.std.specs.shelf.Lists.{Has, All}
 use Rattle.alphabet.specs.Labels.{Set, Labels, Lawful}
 use Rattle.automaton.specs.declared.Arc.{Arc}
-use Rattle.automaton.specs.Automaton.{Word, Automaton, initial, accepting, Walk, stay, step, Accepts, Inside}
+use Rattle.automaton.specs.Automaton.{Word, Automaton, Walk, stay, step, Inside}
 
 module _ {L : Type 0} {admits : L → Set} {arcs : List (Arc L)} where
   pub walk-append : {p q r : ℕ} {u v : Word} → Walk admits arcs p u q → Walk admits arcs q v r → Walk admits arcs p (u ++ v) r

@@ -1,17 +1,15 @@
 -- The rows of a fixed text's automaton, place by place.
 use mathlib.Core.Path.{_≡_, refl, sym, ap, _∙_}
-use mathlib.Core.List.{List, [], _∷_, map}
+use mathlib.Core.List.{[], _∷_, map}
 use mathlib.Core.Logic.{⊎-elim}
-use Prim.Native.Nat.{ℕ, zero, suc, _+_, _≤_, _<_}
+use Prim.Native.Nat.{ℕ, zero, suc, _+_, _<_}
 use native.Mathlib.Nat.{zero-add, add-zero}
 use native.Mathlib.Omega.{arith}
-use lib.Dec.{eqb}
 use lib.ListN.{length, getD}
 use Rattle.std.specs.Iters.{counting}
 use Rattle.std.proofs.shelf.Counted.{length-map-counting, getD-map-counting}
 use Rattle.std.proofs.shelf.Lists.{getD-past}
 use Rattle.std.proofs.shelf.Tests.{cases-lt, ne-eqb}
-use Rattle.automaton.specs.declared.Marks.{Marks}
 use Rattle.automaton.specs.declared.Arc.{Arc}
 use Rattle.automaton.specs.Automaton.{Word, unmarked}
 use Rattle.giver.specs.Fixed.{chain-marks, chain-arcs}

@@ -16,7 +16,7 @@ use Rattle.automaton.specs.declared.Arc.{Arc}
 use Rattle.automaton.specs.Automaton.{Automaton, Word, Walk, stay, Accepts, initial, accepting, unmarked}
 use Rattle.automaton.proofs.Walks.{walk-nil, walk-split, walk-push, walk-letter}
 use Rattle.giver.specs.Told.{arc-at}
-use Rattle.giver.specs.Run.{In, Reaches, Reached, Leads, Stepped, SomeAccepts}
+use Rattle.giver.specs.Run.{In, Reached, Stepped, SomeAccepts}
 
 pub none-marked : (n q : ℕ) → getD (replicate n false) q false ≡ false
 none-marked n q =

@@ -1,19 +1,19 @@
 -- The automaton of a fixed text accepts just the text.
 use mathlib.Core.Path.{_≡_, refl, sym, ap, subst, _∙_}
-use mathlib.Core.Bool.{true, _&&_}
+use mathlib.Core.Bool.{true}
 use mathlib.Core.List.{List, [], _∷_}
-use mathlib.Core.Logic.{_↔_, inl, inr}
+use mathlib.Core.Logic.{inl, inr}
 use Prim.Native.Nat.{ℕ, suc, _+_, _≤_, _<_}
 use native.Mathlib.Nat.{zero-add, add-zero}
 use native.Mathlib.Omega.{arith}
-use lib.Dec.{ltb, leb, eqb}
+use lib.Dec.{ltb, leb}
 use lib.ListN.{length, getD, drop}
 use Rattle.std.specs.shelf.Lists.{All, Has}
 use Rattle.std.proofs.shelf.Lists.{drop-more, drop-all}
-use Rattle.std.proofs.shelf.Tests.{and-parts, and-from, ltb-true, lt-ltb, leb-true, le-leb, eqb-true, eq-eqb}
-use Rattle.alphabet.specs.Labels.{Labels, Lawful, Ranged, from-to}
+use Rattle.std.proofs.shelf.Tests.{and-parts, and-from, lt-ltb, leb-true, le-leb, eqb-true, eq-eqb}
+use Rattle.alphabet.specs.Labels.{Labels, Lawful, Ranged}
 use Rattle.automaton.specs.declared.Arc.{Arc}
-use Rattle.automaton.specs.Automaton.{Automaton, Word, Walk, stay, step, Accepts, Inside}
+use Rattle.automaton.specs.Automaton.{Automaton, Word, Walk, stay, step, Inside}
 use Rattle.automaton.proofs.Walks.{walk-letters}
 use Rattle.giver.specs.Told.{Sound, Cause}
 use Rattle.giver.specs.Fixed.{chain, chain-arcs, AcceptsJust}

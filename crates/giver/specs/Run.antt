@@ -2,11 +2,11 @@
 use mathlib.Core.Path.{_≡_}
 use mathlib.Core.Bool.{Bool, true, false}
 use mathlib.Core.List.{List}
-use Prim.Native.Nat.{ℕ, _<_}
+use Prim.Native.Nat.{ℕ}
 use lib.ListN.{length, getD}
 use Rattle.std.specs.Orderings.{Decides}
 use Rattle.std.specs.shelf.Lists.{Has}
-use Rattle.alphabet.specs.Labels.{Labels, Set}
+use Rattle.alphabet.specs.Labels.{Set}
 use Rattle.automaton.specs.declared.Arc.{Arc}
 use Rattle.automaton.specs.Automaton.{Automaton, Word, Walk, initial, accepting}
 

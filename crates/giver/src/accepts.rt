@@ -1,12 +1,9 @@
 // Whether a giver's automaton accepts a word, by running it along the word.
-ghost use Prim.Native.Nat.{ℕ, _≤_};
-ghost use mathlib.Core.Path.{_≡_};
 ghost use mathlib.Core.List.{[]};
-ghost use lib.ListN.{length};
 ghost use Rattle.std.specs.Orderings.{Decides};
 ghost use Rattle.automaton.specs.Automaton.{Accepts, Inside};
 ghost use Rattle.giver.specs.Run.{Reached, Stepped, SomeAccepts};
-ghost use Rattle.giver.specs.Told.{Small, Sound, Checked};
+ghost use Rattle.giver.specs.Told.{Sound, Checked};
 use crate::Giver;
 use crate::Refusal;
 use alphabet::Alphabet;

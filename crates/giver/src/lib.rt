@@ -1,5 +1,4 @@
 // Pattern givers: each means one automaton and tells it piece by piece.
-ghost use Prim.Native.Nat.{ℕ};
 ghost use mathlib.Core.Path.{_≡_};
 ghost use lib.ListN.{length};
 ghost use Rattle.automaton.specs.Automaton.{Automaton};

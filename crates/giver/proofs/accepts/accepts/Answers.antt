@@ -1,6 +1,4 @@
 use mathlib.Core.Path.{sym, subst}
-use native.Mathlib.Omega.{arith}
-use lib.ListN.{take}
 use Rattle.std.proofs.shelf.Lists.{take-more, take-all}
 use Rattle.giver.specs.Run.{Reached}
 use Rattle.giver.proofs.Running.{reached-step, reached-accepts}

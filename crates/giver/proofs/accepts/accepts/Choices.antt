@@ -1,6 +1,5 @@
 use lib.ListN.{take}
 use Rattle.giver.specs.Run.{Reached}
-use Rattle.giver.specs.Told.{Sound}
 use Rattle.giver.proofs.accepts.accepts.Given as given
 
 abbrev pub Inv-loop-letter : given.InvT-loop-letter

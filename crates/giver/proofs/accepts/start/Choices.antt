@@ -1,6 +1,6 @@
 use Prim.Native.Nat.{ℕ, _<_, _≤_}
 use mathlib.Core.Path.{_≡_}
-use mathlib.Core.Bool.{true, false}
+use mathlib.Core.Bool.{false}
 use lib.ListN.{length, getD}
 use Rattle.automaton.specs.Automaton.{initial}
 use Rattle.giver.proofs.accepts.start.Given as given

@@ -1,6 +1,4 @@
 use mathlib.Core.Logic.{⊎-elim}
-use mathlib.Core.Path.{ap, _∙_}
-use mathlib.Core.Bool.{_&&_}
 use native.Mathlib.Omega.{arith}
 use Rattle.std.proofs.shelf.Tests.{and-left, and-right, and-from, lt-ltb, le-ltb, cases-lt, both-ways}
 use Rattle.alphabet.specs.Modem.{marked}

@@ -1,6 +1,4 @@
 use mathlib.Core.Path.{sym, ap, _∙_}
-use lib.ListN.{length}
-use Rattle.automaton.specs.declared.Arc.{Arc}
 use Rattle.std.proofs.shelf.Lists.{getD-past}
 use Rattle.giver.proofs.Chain.{chain-arc-at, length-chain-arcs}
 use Rattle.giver.proofs.fixed.FixedTextGiver.arc.Needs as need
