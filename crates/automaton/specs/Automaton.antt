@@ -5,7 +5,7 @@ use mathlib.Core.List.{List, [], _∷_, map}
 use Prim.Native.Nat.{ℕ, _<_}
 use lib.ListN.{length, getD}
 use Rattle.std.specs.shelf.Lists.{Has}
-use Rattle.alphabet.specs.Labels.{Set}
+use Rattle.alphabet.specs.Labels.{Labels, Set}
 use Rattle.automaton.specs.declared.Marks.{Marks}
 use Rattle.automaton.specs.declared.State.{State}
 use Rattle.automaton.specs.declared.Arc.{Arc}
@@ -26,6 +26,10 @@ initial m q = getD (m .states) q unmarked .initial
 
 abbrev pub accepting : {L : Type 0} → Automaton L → ℕ → Bool
 accepting m q = getD (m .states) q unmarked .accepting
+
+-- the arc at a place; past the last one from 0 to 0 on the full label
+abbrev pub arc-at : {L : Type 0} → Labels L → Automaton L → ℕ → Arc L
+arc-at a m k = getD (m .arcs) k (record { from = 0; label = a .full; to = 0 })
 
 -- arcs lead from one state to another, and their labels admit the letters of the word in turn
 pub data Walk {L : Type 0} (admits : L → Set) (arcs : List (Arc L)) : ℕ → Word → ℕ → Type 0 where

@@ -1,1 +1,3 @@
 pub mod Automaton
+pub mod Nfa
+pub mod Numbers

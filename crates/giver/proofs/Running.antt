@@ -13,9 +13,8 @@ use Rattle.std.proofs.shelf.Lists.{length-set, length-replicate, getD-replicate
 use Rattle.std.proofs.shelf.Tests.{cases-lt, cases-eq, both-ways}
 use Rattle.alphabet.specs.Labels.{Labels, Set}
 use Rattle.automaton.specs.declared.Arc.{Arc}
-use Rattle.automaton.specs.Automaton.{Automaton, Word, Walk, stay, Accepts, initial, accepting, unmarked}
+use Rattle.automaton.specs.Automaton.{Automaton, Word, Walk, stay, Accepts, initial, accepting, unmarked, arc-at}
 use Rattle.automaton.proofs.Walks.{walk-nil, walk-split, walk-push, walk-letter}
-use Rattle.giver.specs.Told.{arc-at}
 use Rattle.giver.specs.Run.{In, Reached, Stepped, SomeAccepts}
 
 pub none-marked : (n q : ℕ) → getD (replicate n false) q false ≡ false

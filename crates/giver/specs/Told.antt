@@ -16,10 +16,6 @@ use Rattle.giver.specs.declared.Refusal.the-variants.{TooLarge, ArcOutside}
 abbrev pub marks-at : {L : Type 0} → Automaton L → ℕ → Marks
 marks-at m q = getD (m .states) q unmarked
 
--- past the last arc 0, the full label and 0 are told
-abbrev pub arc-at : {L : Type 0} → Labels L → Automaton L → ℕ → Arc L
-arc-at a m k = getD (m .arcs) k (record { from = 0; label = a .full; to = 0 })
-
 -- at most 256 states and 4,096 arcs
 abbrev pub Small : {L : Type 0} → Automaton L → Type 0
 Small m = (length (m .states) ≤ 256) × (length (m .arcs) ≤ 4096)

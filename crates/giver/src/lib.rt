@@ -1,8 +1,8 @@
 // Pattern givers: each means one automaton and tells it piece by piece.
 ghost use mathlib.Core.Path.{_≡_};
 ghost use lib.ListN.{length};
-ghost use Rattle.automaton.specs.Automaton.{Automaton};
-ghost use Rattle.giver.specs.Told.{marks-at, arc-at, number};
+ghost use Rattle.automaton.specs.Automaton.{Automaton, arc-at};
+ghost use Rattle.giver.specs.Told.{marks-at, number};
 use alphabet::Alphabet;
 use automaton::Arc;
 use automaton::Marks;

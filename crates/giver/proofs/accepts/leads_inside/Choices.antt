@@ -1,5 +1,5 @@
 use Prim.Native.Nat.{ℕ, _<_}
-use Rattle.giver.specs.Told.{arc-at}
+use Rattle.automaton.specs.Automaton.{arc-at}
 use Rattle.giver.proofs.accepts.leads_inside.Given as given
 
 abbrev pub Inv-loop-k : given.InvT-loop-k
