@@ -1,0 +1,4 @@
+pub mod Keeping
+pub mod Exploring
+pub mod Parts
+pub mod Places

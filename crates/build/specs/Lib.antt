@@ -1,0 +1,3 @@
+pub mod Outcome
+pub mod Pairs
+pub mod Tables
