@@ -1,1 +1,2 @@
+pub mod Realizing
 pub mod Walks
