@@ -1,3 +1,4 @@
+pub mod AllWords
 pub mod Products
 pub mod Realizing
 pub mod Walks
