@@ -1,4 +1,5 @@
 pub mod AllWords
+pub mod Concats
 pub mod Products
 pub mod Realizing
 pub mod Walks
