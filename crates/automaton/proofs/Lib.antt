@@ -1,5 +1,6 @@
 pub mod AllWords
 pub mod Concats
+pub mod Counting
 pub mod Products
 pub mod Realizing
 pub mod Walks
