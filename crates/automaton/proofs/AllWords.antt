@@ -1,5 +1,5 @@
 -- The abstract automaton of all words recognizes every word of the alphabet's letters, and no other.
-use mathlib.Core.Path.{_≡_, refl}
+use mathlib.Core.Path.{refl}
 use mathlib.Core.List.{[], _∷_}
 use mathlib.Core.Logic.{_↔_}
 use Prim.Native.Nat.{_<_}

@@ -1,4 +1,5 @@
 pub mod AllWords
+pub mod Composing
 pub mod Concats
 pub mod Counting
 pub mod Products
