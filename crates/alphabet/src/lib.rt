@@ -6,7 +6,7 @@ ghost use Rattle.alphabet.specs.Labels.{Labels, Lawful, Ranged};
 pub mod modem;
 pub mod text;
 
-// What products, concatenations and solving need of an alphabet.
+// What every alphabet has: no more than running and combining automata needs.
 pub trait Alphabet {
     type Label: Copy;
 
@@ -30,7 +30,7 @@ pub trait Alphabet {
         ensures is_first { λ r. ⌜ r ≡ labels .first (now (label .entry)) ⌝ };
 }
 
-// An alphabet that also makes a label from two letters. The reader and fixed texts need it.
+// An alphabet that also makes a label from two letters. Fixed texts need it.
 pub trait RangedAlphabet: Alphabet {
     ghost between: { ℕ → ℕ → Self·Label };
 

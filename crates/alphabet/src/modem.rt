@@ -37,9 +37,9 @@ pub impl Alphabet for Modem as ModemAlphabet {
     }
 
     fn first(label: &ModemLabel) -> Option<u32> {
-        for c in 0..128u32 {
-            if label.marks[c as usize] {
-                return Some(c);
+        for c in 0..LETTERS {
+            if label.marks[c] {
+                return Some(c as u32);
             }
         }
         None
@@ -51,8 +51,8 @@ pub impl RangedAlphabet for Modem as ModemRanged {
 
     fn range(lo: u32, hi: u32) -> ModemLabel {
         let mut marks = [false; LETTERS];
-        for c in 0..128u32 {
-            marks[c as usize] = (lo <= c) & (c <= hi);
+        for c in 0..LETTERS {
+            marks[c] = (lo as usize <= c) & (c <= hi as usize);
         }
         ModemLabel { marks }
     }

@@ -1,7 +1,7 @@
 -- The weir's wait accepts a digit and then anything, and nothing else.
 use mathlib.Core.Path.{_≡_, refl, sym, ap, subst, _∙_}
 use mathlib.Core.Bool.{true, false}
-use mathlib.Core.List.{List, [], _∷_}
+use mathlib.Core.List.{[], _∷_}
 use mathlib.Core.Logic.{_⊎_, inl, inr, ⊎-elim, _↔_}
 use Prim.Native.Nat.{ℕ, zero, suc, _≤_, _<_}
 use native.Mathlib.Omega.{arith}
@@ -13,22 +13,18 @@ use Rattle.alphabet.specs.Modem.{modem, marks-from-to}
 use Rattle.alphabet.specs.declared.modem.ModemLabel.{ModemLabel}
 use Rattle.alphabet.proofs.Marking.{lawful, ranged}
 use Rattle.automaton.specs.declared.Arc.{Arc}
-use Rattle.automaton.specs.declared.State.{State}
 use Rattle.automaton.specs.Automaton.{Automaton, Word, Walk, stay, step, Accepts, of-rows, initial, accepting}
 use Rattle.giver.specs.Told.{Sound}
-use Rattle.gauges.specs.Replies.{Awaited}
+use Rattle.gauges.specs.Replies.{Awaited, wait-states, wait-arcs}
 
-abbrev pub digit : Arc ModemLabel
+abbrev digit : Arc ModemLabel
 digit = record { from = 0; label = marks-from-to 48 57; to = 1 }
 
-abbrev pub anything : Arc ModemLabel
+abbrev anything : Arc ModemLabel
 anything = record { from = 1; label = modem .full; to = 1 }
 
-abbrev pub arcs : List (Arc ModemLabel)
-arcs = digit ∷ anything ∷ []
-
 abbrev pub wait : Automaton ModemLabel
-wait = record { states = record { initial = true; accepting = false } ∷ record { initial = false; accepting = true } ∷ []; arcs = arcs }
+wait = of-rows wait-states wait-arcs
 
 zero-one : _≡_ {A = ℕ} 0 1 → ⊥
 zero-one e = omega arith
@@ -47,13 +43,13 @@ starts-at (suc zero) h = absurd (both-ways false refl h)
 starts-at (suc (suc q)) h = absurd (both-ways false refl h)
 
 -- from the second state on anything goes, and nowhere else
-from-one : {p q : ℕ} {w : Word} → Walk (modem .admits) arcs p w q → p ≡ 1 → All (λ x. x < 128) w
+from-one : {p q : ℕ} {w : Word} → Walk (modem .admits) wait-arcs p w q → p ≡ 1 → All (λ x. x < 128) w
 from-one stay e = tt
 from-one (step {c} b has from yes′ h) e =
     ⊎-elim (λ is. absurd (zero-one (ap (λ x. x .from) is ∙ from ∙ e)))
     (λ is. (lawful .within (b .label) c yes′, from-one h (sym (ap (λ x. x .to) is)))) (two digit anything b has)
 
-from-zero : {p q : ℕ} {w : Word} → Walk (modem .admits) arcs p w q → p ≡ 0 → accepting wait q ≡ true → Awaited w
+from-zero : {p q : ℕ} {w : Word} → Walk (modem .admits) wait-arcs p w q → p ≡ 0 → accepting wait q ≡ true → Awaited w
 from-zero stay e end = absurd (both-ways false refl (ap (accepting wait) (sym e) ∙ end))
 from-zero (step {c} b has from yes′ h) e end =
     ⊎-elim
@@ -63,7 +59,7 @@ from-zero (step {c} b has from yes′ h) e end =
     (leb-true 48 c (ends .0), leb-true c 57 (ends .1), from-one h (sym (ap (λ x. x .to) is))))
     (λ is. absurd (zero-one (sym (ap (λ x. x .from) is ∙ from ∙ e)))) (two digit anything b has)
 
-loop : (w : Word) → All (λ x. x < 128) w → Walk (modem .admits) arcs 1 w 1
+loop : (w : Word) → All (λ x. x < 128) w → Walk (modem .admits) wait-arcs 1 w 1
 loop [] all = stay
 loop (c ∷ w) all = step anything (1, lit< tt, λ d. refl) refl (lawful .full-all c (all .0)) (loop w (all .1))
 
@@ -82,11 +78,3 @@ exact w = (λ x. from-zero (x .walk) (starts-at (x .start) (x .starts)) (x .ends
 
 pub sound : Sound wait
 sound = ((lit≤ tt, lit≤ tt), λ b has. ⊎-elim (λ is. subst (λ (x : Arc ModemLabel). (x .from < 2) × (x .to < 2)) is (lit< tt, lit< tt)) (λ is. subst (λ (x : Arc ModemLabel). (x .from < 2) × (x .to < 2)) is (lit< tt, lit< tt)) (two digit anything b has))
-
--- rows that are made so are that automaton
-pub same : (s t : State) (l k : ModemLabel) → s .marks ≡ record { initial = true; accepting = false } → t .marks ≡ record { initial = false; accepting = true } → l ≡ marks-from-to 48 57 → k ≡ modem .full →
-    of-rows (s ∷ t ∷ []) (record { from = 0; label = l; to = 1 } ∷ record { from = 1; label = k; to = 1 } ∷ []) ≡ wait
-same s t l k si ti li ki = λ i. record {
-  states = si i ∷ ti i ∷ [];
-  arcs = record { from = 0; label = li i; to = 1 } ∷ record { from = 1; label = ki i; to = 1 } ∷ [];
-}

@@ -2,11 +2,12 @@
 ghost use mathlib.Core.Path.{_≡_};
 ghost use mathlib.Core.List.{[], _∷_};
 ghost use Rattle.std.specs.Orderings.{Decides};
-ghost use Rattle.gauges.specs.Replies.{Awaited};
+ghost use Rattle.gauges.specs.Replies.{Awaited, wait-states, wait-arcs};
 use alphabet::Alphabet;
 use alphabet::RangedAlphabet;
 use alphabet::modem::Modem;
 use alphabet::modem::ModemAlphabet;
+use alphabet::modem::ModemLabel;
 use alphabet::modem::ModemRanged;
 use automaton::Arc;
 use automaton::Marks;
@@ -20,7 +21,7 @@ use giver::table::TableGiver;
 const LEVEL: [u32; 4] = [52, 46, 50, 49];
 
 fn state(initial: bool, accepting: bool) -> State
-    ensures marked { λ r. ⌜ r .marks ≡ record { initial = initial; accepting = accepting } ⌝ }
+    ensures marked { λ r. ⌜ r ≡ record { marks = record { initial = initial; accepting = accepting }; left = 0; right = 0 } ⌝ }
 {
     State {
         marks: Marks { initial, accepting },
@@ -29,11 +30,15 @@ fn state(initial: bool, accepting: bool) -> State
     }
 }
 
-// The wait: a digit, then anything.
-pub fn awaits(reply: &[u32]) -> bool
-    ensures decides { λ r. ⌜ Decides r (Awaited (now (reply .entry))) ⌝ }
+fn wait_states() -> [State; 2]
+    ensures rows { λ r. ⌜ r ≡ wait-states ⌝ }
 {
-    let states = [state(true, false), state(false, true)];
+    [state(true, false), state(false, true)]
+}
+
+fn wait_arcs() -> [Arc<ModemLabel>; 2]
+    ensures rows { λ r. ⌜ r ≡ wait-arcs ⌝ }
+{
     let digit = Arc {
         from: 0,
         label: Modem::range(48, 57),
@@ -44,7 +49,15 @@ pub fn awaits(reply: &[u32]) -> bool
         label: Modem::full(),
         to: 1,
     };
-    let arcs = [digit, anything];
+    [digit, anything]
+}
+
+// The wait: a digit, then anything.
+pub fn awaits(reply: &[u32]) -> bool
+    ensures decides { λ r. ⌜ Decides r (Awaited (now (reply .entry))) ⌝ }
+{
+    let states = wait_states();
+    let arcs = wait_arcs();
     let wait = Table {
         states: &states,
         arcs: &arcs,

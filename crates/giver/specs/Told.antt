@@ -5,9 +5,7 @@ use Prim.Native.Nat.{ℕ, _≤_}
 use lib.ListN.{length, getD}
 use Rattle.std.specs.declared.result.Result.{Result}
 use Rattle.std.specs.declared.result.Result.the-variants.{Ok, Err}
-use Rattle.alphabet.specs.Labels.{Labels}
 use Rattle.automaton.specs.declared.Marks.{Marks}
-use Rattle.automaton.specs.declared.Arc.{Arc}
 use Rattle.automaton.specs.Automaton.{Automaton, Inside, unmarked}
 use Rattle.giver.specs.declared.Refusal.{Refusal}
 use Rattle.giver.specs.declared.Refusal.the-variants.{TooLarge, ArcOutside}

@@ -1,18 +1,17 @@
 use mathlib.Core.Path.{_≡_, subst}
-use mathlib.Core.List.{[], _∷_}
 use Rattle.std.specs.Orderings.{Decides}
 use Rattle.std.proofs.shelf.Ways.{decides-like}
 use Rattle.automaton.specs.Automaton.{of-rows, Accepts}
 use Rattle.alphabet.specs.Modem.{modem}
 use Rattle.giver.specs.Told.{Cause, number}
 use Rattle.giver.proofs.Spelling.{never-refused}
-use Rattle.gauges.proofs.Wait.{wait, exact, sound, same}
+use Rattle.gauges.proofs.Wait.{wait, exact, sound}
 use Rattle.gauges.proofs.weir.awaits.Needs as need
 use Rattle.gauges.proofs.weir.awaits.Needs.{After-accepts}
 
 -- the rows that were made are those of the wait
-rows : (c : After-accepts) → of-rows (c .state .result ∷ c .state-2 .result ∷ []) (record { from = 0; label = c .range .result; to = 1 } ∷ record { from = 1; label = c .full .result; to = 1 } ∷ []) ≡ wait
-rows c = same (c .state .result) (c .state-2 .result) _ _ (c .state .ensures .marked) (c .state-2 .ensures .marked) (c .range .ensures .is-range) (c .full .ensures .is-full)
+rows : (c : After-accepts) → of-rows (c .wait-states-states .result) (c .wait-arcs-arcs .result) ≡ wait
+rows c = λ i. of-rows (c .wait-states-states .ensures .rows i) (c .wait-arcs-arcs .ensures .rows i)
 
 pub returns-in-Ok : need.returns-in-Ok
 returns-in-Ok c =
