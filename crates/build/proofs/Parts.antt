@@ -42,8 +42,7 @@ pub inside-part : {L : Type 0} (states : List State) (arcs : List (Arc L)) (p : 
 inside-part {L} states arcs p sfit afit =
     let mine = part arcs (p .first .arcs) (p .count .arcs) in
     let n = length-map (part states (p .first .states) (p .count .states)) (λ (s : State). s .marks) ∙ length-part states (p .first .states) (p .count .states) sfit in
-    let e = length-part arcs (p .first .arcs) (p .count .arcs) afit in
-    (
+    let e = length-part arcs (p .first .arcs) (p .count .arcs) afit in (
       λ h. every-arc mine (λ b. (b .from < length (at states arcs p .states)) × (b .to < length (at states arcs p .states))) (λ k d low. let both = h k d (omega arith) in (omega (arith, both .0), omega (arith, both .1))),
       λ inside k d low. let both = inside (getD mine k d) (has-getD mine k d (omega arith)) in (omega (arith, both .0), omega (arith, both .1)),
     )

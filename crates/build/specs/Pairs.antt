@@ -16,6 +16,7 @@ use Rattle.automaton.specs.Nfa.{Nfa, Meets, Reachable, rows, product}
 use Rattle.build.specs.declared.Stop.{Stop}
 use Rattle.build.specs.declared.Stop.the-variants.{StatesFull, ArcsFull, Outside}
 use Rattle.build.specs.declared.Operands.{Operands}
+use Rattle.build.specs.declared.Place.{Place}
 use Rattle.build.specs.Outcome.{NoStates}
 use Rattle.build.specs.Tables.{state-room, part, at, InUse, Stands, Kept}
 
@@ -53,6 +54,9 @@ pub record Ready {L : Type 0} (job : Operands) (states : List State) (arcs : Lis
 -- a pair of states has the marks that both have
 abbrev pub both : Marks → Marks → Marks
 both s t = record { initial = s .initial && t .initial; accepting = s .accepting && t .accepting }
+
+abbrev pub marks-in : List State → Place → ℕ → Marks
+marks-in states p q = getD (map (λ s. s .marks) (part states (p .first .states) (p .count .states))) q unmarked
 
 abbrev pub marks-of : {L : Type 0} → Operands → List State → List (Arc L) → ℕ → ℕ → Marks
 marks-of job states arcs p q = both (getD (left-of job states arcs .states) p unmarked) (getD (right-of job states arcs .states) q unmarked)
@@ -92,3 +96,7 @@ ClosedBy a m k x q ps = (y : ℕ) → y < length (k .arcs) → arc-at a k y .fro
 -- the pairs that pairs of arcs reach from (p, q) are there
 abbrev pub ClosedAt : {L : Type 0} → Labels L → Automaton L → Automaton L → Pair → List Pair → Type 0
 ClosedAt a m k x ps = (e : ℕ) → e < length (m .arcs) → arc-at a m e .from ≡ x .0 → ClosedBy a m k e (x .1) ps
+
+-- nothing leads out of the pairs
+abbrev pub Closed : {L : Type 0} → Labels L → Automaton L → Automaton L → List Pair → Type 0
+Closed a m k ps = All (λ x. ClosedAt a m k x ps) ps

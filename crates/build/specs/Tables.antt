@@ -2,7 +2,8 @@
 use mathlib.Core.Path.{_≡_}
 use mathlib.Core.List.{List}
 use Prim.Native.Nat.{ℕ, min, _+_, _≤_}
-use lib.ListN.{length, take, drop}
+use lib.ListN.{length, getD, take, drop}
+use Rattle.alphabet.specs.Labels.{Labels}
 use Rattle.automaton.specs.declared.State.{State}
 use Rattle.automaton.specs.declared.Arc.{Arc}
 use Rattle.automaton.specs.Automaton.{Automaton, of-rows, Inside}
@@ -23,6 +24,10 @@ part rows first n = take n (drop first rows)
 -- the automaton whose rows lie at a place
 abbrev pub at : {L : Type 0} → List State → List (Arc L) → Place → Automaton L
 at states arcs p = of-rows (part states (p .first .states) (p .count .states)) (part arcs (p .first .arcs) (p .count .arcs))
+
+-- an arc of the automaton at a place
+abbrev pub arc-in : {L : Type 0} → Labels L → List (Arc L) → Place → ℕ → Arc L
+arc-in a arcs p k = getD (part arcs (p .first .arcs) (p .count .arcs)) k (record { from = 0; label = a .full; to = 0 })
 
 -- the rows in use are rows of the tables that count
 pub record InUse {L : Type 0} (states : List State) (arcs : List (Arc L)) (used : Rows) : Type 0 where

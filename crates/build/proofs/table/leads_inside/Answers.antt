@@ -21,8 +21,8 @@ returns-then-from-p g c =
         λ all.
             let both = all (c .loop-k .k) d (c .loop-k-test .taken) in
             absurd (elim (c .then-from-p .came) [
-              then-from-p·by·then-from-p w ↦ omega (arith, both .0, c .from .ensures .reads d, w .if-from-p .taken)
-            | then-from-p·by·else-from-p·then-to-p w ↦ omega (arith, both .1, w .to .ensures .reads d, w .if-to-p .taken)
+              | then-from-p·by·then-from-p w ↦ omega (arith, both .0, c .from .ensures .reads d, w .if-from-p .taken)
+              | then-from-p·by·else-from-p·then-to-p w ↦ omega (arith, both .1, w .to .ensures .reads d, w .if-to-p .taken)
             ]),
       );
     }
@@ -30,7 +30,7 @@ returns-then-from-p g c =
 pub loop-k-again : need.loop-k-again
 loop-k-again g c =
     λ k d low.
-        ⊎-elim
-        (λ same. let f = c .from .ensures .reads d in let t = c .to .ensures .reads d in
-            subst (λ (i : ℕ). let b = getD (part (c .args .arcs .now) (c .args .p .first .arcs) (c .args .p .count .arcs)) i d in (b .from < c .args .p .count .states) × (b .to < c .args .p .count .states)) (sym same) (omega arith, omega arith))
-        (λ other. c .loop-k .inv k d (omega arith)) (cases-eq k (c .loop-k .k))
+    ⊎-elim
+    (λ same. let f = c .from .ensures .reads d in let t = c .to .ensures .reads d in
+    subst (λ (i : ℕ). let b = getD (part (c .args .arcs .now) (c .args .p .first .arcs) (c .args .p .count .arcs)) i d in (b .from < c .args .p .count .states) × (b .to < c .args .p .count .states)) (sym same) (omega arith, omega arith))
+    (λ other. c .loop-k .inv k d (omega arith)) (cases-eq k (c .loop-k .k))
