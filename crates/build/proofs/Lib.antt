@@ -1,4 +1,5 @@
 pub mod Keeping
+pub mod Emitting
 pub mod Exploring
 pub mod Finding
 pub mod Parts

@@ -1,3 +1,4 @@
+pub mod Emitted
 pub mod Outcome
 pub mod Pairs
 pub mod Tables

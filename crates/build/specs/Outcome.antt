@@ -47,3 +47,8 @@ Outcome a n used states arcs (Err Outside) = ⊥
 -- a build whose operands do not stand is refused; of any other the answer is its outcome
 abbrev pub Answer : {S E L : Type 0} → Type 0 → Labels L → Nfa S E L → Rows → List State → List (Arc L) → Result Place Stop → Type 0
 Answer Ready a n used states arcs r = (Ready × Outcome a n used states arcs r) ⊎ ((Ready → ⊥) × (r ≡ Err Outside))
+
+-- what is said of an automaton that was built
+abbrev pub Meant : Result Place Stop → (Place → Type 0) → Type 0
+Meant (Ok p) P = P p
+Meant (Err e) P = Unit {0}

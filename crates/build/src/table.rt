@@ -2,7 +2,7 @@
 ghost use Prim.Native.Nat.{ℕ, _+_, _≤_, _<_};
 ghost use mathlib.Core.Path.{_≡_};
 ghost use mathlib.Core.List.{map};
-ghost use lib.ListN.{length, getD};
+ghost use lib.ListN.{length, getD, set};
 ghost use Rattle.std.specs.Orderings.{Decides};
 ghost use Rattle.automaton.specs.Automaton.{unmarked};
 ghost use Rattle.build.specs.Tables.{state-room, arc-room, part, Lies, InUse, Stands};
@@ -86,4 +86,11 @@ pub fn stands<L: Copy>(states: &[State], arcs: &[Arc<L>], used: Rows, p: Place) 
     ensures decides { λ r. ⌜ Decides r (Stands (now (states .entry)) (now (arcs .entry)) used p) ⌝ }
 {
     lies(used, p) && leads_inside(arcs, p)
+}
+
+pub fn put<L: Copy>(arcs: &mut [Arc<L>], at: usize, arc: Arc<L>)
+    requires { ⌜ at < length (now arcs) ⌝ }
+    ensures writes { λ _. ⌜ now (arcs .exit) ≡ set (now (arcs .entry)) at arc ⌝ }
+{
+    arcs[at] = arc;
 }
