@@ -2,10 +2,14 @@
 use mathlib.Core.Path.{_≡_, refl, sym, ap, subst, _∙_}
 use mathlib.Core.List.{List, [], _∷_, _++_}
 use mathlib.Core.Logic.{_⊎_, inl, inr, ⊎-elim}
-use Prim.Native.Nat.{ℕ, _+_, _-_, _≤_, _<_}
+use Prim.Native.Nat.{ℕ, min, _+_, _-_, _≤_, _<_}
 use native.Mathlib.Omega.{arith}
 use lib.ListN.{length, getD, set}
 use Rattle.std.specs.shelf.Lists.{All, Has}
+use Rattle.std.specs.Results.{ErrBy}
+use Rattle.std.specs.declared.result.Result.{Result}
+use Rattle.std.specs.declared.result.Result.the-variants.{Err}
+use Rattle.std.proofs.shelf.Results.{err-from-errBy}
 use Rattle.std.proofs.shelf.Elements.{all-push, all-getD, has-getD, has-push, has-push-cases, has-append-left}
 use Rattle.std.proofs.shelf.Lists.{length-push, getD-push, getD-append-left}
 use Rattle.std.proofs.shelf.Tests.{cases-lt, cases-eq}
@@ -18,11 +22,13 @@ use Rattle.automaton.specs.Numbers.{Numbers, MoreThan}
 use Rattle.build.specs.declared.Operands.{Operands}
 use Rattle.build.specs.declared.Place.{Place}
 use Rattle.build.specs.declared.Rows.{Rows}
-use Rattle.build.specs.Emitted.{Stands-for, Emitted, name-of, Paired, Before, Written}
+use Rattle.build.specs.declared.Stop.{Stop}
+use Rattle.build.specs.declared.Stop.the-variants.{StatesFull, ArcsFull, Outside}
+use Rattle.build.specs.Emitted.{Stands-for, Emitted, name-of, Paired, Before, Written, Wrote}
 use Rattle.build.specs.Pairs.{Pair, Distinct, pairs, left-of, right-of, product-of, Ready}
 use Rattle.build.specs.Tables.{part, at, arc-room, InUse, Lies, Stands, Kept}
-use Rattle.build.proofs.Exploring.{length-pairs}
-use Rattle.build.proofs.Keeping.{kept-set, part-kept}
+use Rattle.build.proofs.Exploring.{length-pairs, arcs-count}
+use Rattle.build.proofs.Keeping.{kept-more, kept-set, part-kept}
 use Rattle.build.proofs.Parts.{length-part, part-more}
 use Rattle.build.proofs.Places.{distinct-push, distinct-places}
 
@@ -36,15 +42,15 @@ module _ {S X L : Type 0} (nfa : Nfa S X L) (name : ℕ → S) (n : ℕ) where
     stands = λ k d x low.
         ⊎-elim
         (λ below.
-            let same = sym (getD-append-left done (b ∷ []) d k (omega (arith, h .long))) in
-            let same′ = sym (getD-append-left sources (e ∷ []) x k below) in
-            subst (λ y. Stands-for nfa name n (getD (done ++ b ∷ []) k d) y) same′ (subst (λ r. Stands-for nfa name n r (getD sources k x)) same (h .stands k d x below)))
+        let same = sym (getD-append-left done (b ∷ []) d k (omega (arith, h .long))) in
+        let same′ = sym (getD-append-left sources (e ∷ []) x k below) in
+        subst (λ y. Stands-for nfa name n (getD (done ++ b ∷ []) k d) y) same′ (subst (λ r. Stands-for nfa name n r (getD sources k x)) same (h .stands k d x below)))
         (λ past.
-            let long = length-push sources e in
-            let here : length sources ≡ k = omega arith in
-            let same = sym (getD-push done b d k (h .long ∙ here)) in
-            let same′ = sym (getD-push sources e x k here) in
-            subst (λ y. Stands-for nfa name n (getD (done ++ b ∷ []) k d) y) same′ (subst (λ r. Stands-for nfa name n r e) same for))
+        let long = length-push sources e in
+        let here : length sources ≡ k = omega arith in
+        let same = sym (getD-push done b d k (h .long ∙ here)) in
+        let same′ = sym (getD-push sources e x k here) in
+        subst (λ y. Stands-for nfa name n (getD (done ++ b ∷ []) k d) y) same′ (subst (λ r. Stands-for nfa name n r e) same for))
         (cases-lt k (length sources));
     arrows = all-push (nfa .Arrow) sources e (h .arrows) arrow;
     once = distinct-push sources e (h .once) none;
@@ -54,8 +60,7 @@ module _ {S X L : Type 0} (nfa : Nfa S X L) (name : ℕ → S) (n : ℕ) where
   pub emitted-full : (done : List (Arc L)) (sources : List X) (d e : X) (k : ℕ) → Emitted nfa name n done sources → nfa .Arrow e → (Has sources e → ⊥) → length done ≡ k → (f : ℕ → X) × MoreThan (nfa .Arrow) k f
   emitted-full done sources d e k h arrow none long =
       let all = sources ++ e ∷ [] in
-      let count = length-push sources e in
-      (
+      let count = length-push sources e in (
         λ i. getD all i d,
         record {
           each = λ i low. all-getD (nfa .Arrow) all i d (omega (arith, h .long)) (all-push (nfa .Arrow) sources e (h .arrows) arrow);
@@ -130,8 +135,7 @@ module _ {L : Type 0} (a : Labels L) (job : Operands) (states : List State) (n :
       let arcs′ = set arcs (u + e) b in
       let kept = kept-set u (u + e) arcs b (omega arith) in
       let pushed = emitted-push (product-of a job states arcs) (name-of job states n) n (part arcs u e) (h .sources) b (x, y) (h .emitted) for arrow none-yet in
-      let rows′ = part-more arcs u e b (omega arith) in
-      (
+      let rows′ = part-more arcs u e b (omega arith) in (
         kept,
         record {
           room = omega (arith, kept .long);
@@ -157,3 +161,41 @@ pub paired-has : {L : Type 0} (a : Labels L) (job : Operands) (states : List Sta
 paired-has a job states arcs n z h state =
     let i = h .numbers .every z state in
     subst (Has (pairs job states n)) (i .2) (has-getD (pairs job states n) (i .0) (0, 0) (rw (length-pairs job states n (h .fits)) (i .1)))
+
+module _ {L : Type 0} (a : Labels L) (job : Operands) (states : List State) (n : ℕ) where
+  pub written-none : (arcs : List (Arc L)) → Ready job states arcs → Written a job states n arcs 0 (Before 0 0)
+  written-none arcs ready = record {
+    room = omega (arith, ready .in-use .arcs-fit);
+    sources = [];
+    emitted = emitted-none (product-of a job states arcs) (name-of job states n) n;
+    looked = λ z has. absurd (omega (arith, has .1));
+    complete = λ z arrow before. absurd (⊎-elim (λ low. omega arith) (λ here. omega (arith, here .1)) before);
+  }
+
+  -- after the last right arc the next left arc is at its first
+  pub written-row : (arcs : List (Arc L)) (e x y : ℕ) → Ready job states arcs → job .right .count .arcs ≤ y → Written a job states n arcs e (Before x y) → Written a job states n arcs e (Before (x + 1) 0)
+  written-row arcs e x y ready all h = record {
+    room = h .room;
+    sources = h .sources;
+    emitted = h .emitted;
+    looked = λ z has. ⊎-elim (λ low. inl (omega arith)) (λ here. inl (omega (arith, here .0))) (h .looked z has);
+    complete = λ z arrow before.
+        h .complete z arrow
+        (⊎-elim
+        (λ low. ⊎-elim (λ same. inr (same, omega (arith, arrow .1, arcs-count states arcs (job .used) (job .right) (ready .in-use) (ready .right)))) (λ other. inl (omega arith)) (cases-eq (z .0) x))
+        (λ here. absurd (omega (arith, here .1))) before);
+  }
+
+  -- what stopped a later step stops the whole
+  pub wrote-stopped : (arcs t u : List (Arc L)) (P Q : Pair → Type 0) (e : Stop) (r : Result ℕ Stop) → Ready job states arcs → Kept (job .used .arcs) arcs t → ErrBy r (λ y. y ≡ e) → Wrote a job states n t u P (Err e) → Wrote a job states n arcs u Q r
+  wrote-stopped arcs t u P Q e r ready kept by h =
+      let p = err-from-errBy r by in
+      subst (Wrote a job states n arcs u Q) (sym (p .1 ∙ ap Err (p .2))) (go e h)
+    where
+      go : (e : Stop) → Wrote a job states n t u P (Err e) → Wrote a job states n arcs u Q (Err e)
+      go StatesFull h = absurd h
+      go Outside h = absurd h
+      go ArcsFull h = (
+        kept-more (job .used .arcs) arcs t u kept (h .0),
+        (h .1 .0, subst (λ k. MoreThan (product-of a job states arcs .Arrow) (k - job .used .arcs) (h .1 .0)) (ap (λ k. min k 1048576) (kept .long)) (operands-arcs-were job states arcs t ready kept (λ m k. MoreThan (product a (rows a m) (rows a k) .Arrow) (arc-room t - job .used .arcs) (h .1 .0)) (h .1 .1))),
+      )

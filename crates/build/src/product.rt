@@ -27,7 +27,15 @@ use automaton::Arc;
 use automaton::State;
 
 // Writes the arc of two arcs, if their labels meet and they leave a reachable pair.
-fn emit_pair<A: Alphabet>(states: &[State], arcs: &mut [Arc<A::Label>], job: Operands, n: usize, e: usize, x: usize, y: usize) -> Result<usize, Stop>
+fn emit_pair<A: Alphabet>(
+    states: &[State],
+    arcs: &mut [Arc<A::Label>],
+    job: Operands,
+    n: usize,
+    e: usize,
+    x: usize,
+    y: usize,
+) -> Result<usize, Stop>
     requires { ⌜ Paired (A·Alphabet .labels) job (now states) (now arcs) n ⌝ ∗ ⌜ Written (A·Alphabet .labels) job (now states) n (now arcs) e (Before x y) ⌝ }
     requires { ⌜ x < job .left .count .arcs ⌝ ∗ ⌜ y < job .right .count .arcs ⌝ }
     ensures writes { λ r. ⌜ Wrote (A·Alphabet .labels) job (now (states .entry)) n (now (arcs .entry)) (now (arcs .exit)) (Before x (y + 1)) r ⌝ }
@@ -35,10 +43,22 @@ fn emit_pair<A: Alphabet>(states: &[State], arcs: &mut [Arc<A::Label>], job: Ope
     if !meets::<A>(arcs, job, x, y) {
         return Ok(e);
     }
-    let Some(i) = find(states, job, n, from(arcs, job.left, x), from(arcs, job.right, y)) else {
+    let Some(i) = find(
+        states,
+        job,
+        n,
+        from(arcs, job.left, x),
+        from(arcs, job.right, y),
+    ) else {
         return Ok(e);
     };
-    let Some(j) = find(states, job, n, to(arcs, job.left, x), to(arcs, job.right, y)) else {
+    let Some(j) = find(
+        states,
+        job,
+        n,
+        to(arcs, job.left, x),
+        to(arcs, job.right, y),
+    ) else {
         unreachable()
     };
     let at = job.used.arcs + e;
@@ -46,12 +66,27 @@ fn emit_pair<A: Alphabet>(states: &[State], arcs: &mut [Arc<A::Label>], job: Ope
         return Err(Stop::ArcsFull);
     }
     let label = A::meet(&label(arcs, job.left, x), &label(arcs, job.right, y));
-    put(arcs, at, Arc { from: i, label, to: j });
+    put(
+        arcs,
+        at,
+        Arc {
+            from: i,
+            label,
+            to: j,
+        },
+    );
     Ok(e + 1)
 }
 
 // Writes the arcs of the left arc x with every right arc.
-fn emit_arc<A: Alphabet>(states: &[State], arcs: &mut [Arc<A::Label>], job: Operands, n: usize, e: usize, x: usize) -> Result<usize, Stop>
+fn emit_arc<A: Alphabet>(
+    states: &[State],
+    arcs: &mut [Arc<A::Label>],
+    job: Operands,
+    n: usize,
+    e: usize,
+    x: usize,
+) -> Result<usize, Stop>
     requires { ⌜ Paired (A·Alphabet .labels) job (now states) (now arcs) n ⌝ ∗ ⌜ Written (A·Alphabet .labels) job (now states) n (now arcs) e (Before x 0) ⌝ }
     requires { ⌜ x < job .left .count .arcs ⌝ }
     ensures writes { λ r. ⌜ Wrote (A·Alphabet .labels) job (now (states .entry)) n (now (arcs .entry)) (now (arcs .exit)) (Before (x + 1) 0) r ⌝ }
@@ -64,7 +99,12 @@ fn emit_arc<A: Alphabet>(states: &[State], arcs: &mut [Arc<A::Label>], job: Oper
 }
 
 // Writes the arcs of all pairs of arcs, and answers how many there are.
-fn emit<A: Alphabet>(states: &[State], arcs: &mut [Arc<A::Label>], job: Operands, n: usize) -> Result<usize, Stop>
+fn emit<A: Alphabet>(
+    states: &[State],
+    arcs: &mut [Arc<A::Label>],
+    job: Operands,
+    n: usize,
+) -> Result<usize, Stop>
     requires { ⌜ Paired (A·Alphabet .labels) job (now states) (now arcs) n ⌝ }
     ensures writes { λ r. ⌜ Wrote (A·Alphabet .labels) job (now (states .entry)) n (now (arcs .entry)) (now (arcs .exit)) (Before (job .left .count .arcs) 0) r ⌝ }
 {
@@ -78,11 +118,17 @@ fn emit<A: Alphabet>(states: &[State], arcs: &mut [Arc<A::Label>], job: Operands
 fn ready<L: Copy>(states: &[State], arcs: &[Arc<L>], job: Operands) -> bool
     ensures decides { λ r. ⌜ Decides r (Ready job (now (states .entry)) (now (arcs .entry))) ⌝ }
 {
-    in_use(states, arcs, job.used) && stands(states, arcs, job.used, job.left) && stands(states, arcs, job.used, job.right)
+    in_use(states, arcs, job.used)
+        && stands(states, arcs, job.used, job.left)
+        && stands(states, arcs, job.used, job.right)
 }
 
 // Builds both parts behind the rows in use.
-fn build<A: Alphabet>(states: &mut [State], arcs: &mut [Arc<A::Label>], job: Operands) -> Result<Place, Stop>
+fn build<A: Alphabet>(
+    states: &mut [State],
+    arcs: &mut [Arc<A::Label>],
+    job: Operands,
+) -> Result<Place, Stop>
     requires { ⌜ Ready job (now states) (now arcs) ⌝ }
     ensures builds { λ r. ⌜ Outcome (A·Alphabet .labels) (product-of (A·Alphabet .labels) job (now (states .entry)) (now (arcs .entry))) (job .used) (now (states .exit)) (now (arcs .exit)) r ⌝ }
     ensures keeps_states { λ _. ⌜ Kept (job .used .states) (now (states .entry)) (now (states .exit)) ⌝ }
@@ -91,19 +137,22 @@ fn build<A: Alphabet>(states: &mut [State], arcs: &mut [Arc<A::Label>], job: Ope
     let n = explore::<A>(states, arcs, job)?;
     let e = emit::<A>(states, arcs, job, n)?;
     let count = Rows { states: n, arcs: e };
-    Ok(Place { first: job.used, count })
+    Ok(Place {
+        first: job.used,
+        count,
+    })
 }
 
 // The product of the two operands, built behind the rows in use.
-pub fn product<A: Alphabet>(states: &mut [State], arcs: &mut [Arc<A::Label>], job: Operands) -> Result<Place, Stop>
-    ensures answers {
-        λ r. ⌜ Answer (Ready job (now (states .entry)) (now (arcs .entry))) (A·Alphabet .labels) (product-of (A·Alphabet .labels) job (now (states .entry)) (now (arcs .entry)))
-          (job .used) (now (states .exit)) (now (arcs .exit)) r ⌝
-    }
-    ensures accepts_what_both_accept {
-        λ r. ⌜ Meant r (λ p. (w : Word) → Accepts (A·Alphabet .labels .admits) (at (now (states .exit)) (now (arcs .exit)) p) w
-          ↔ (Accepts (A·Alphabet .labels .admits) (left-of job (now (states .entry)) (now (arcs .entry))) w × Accepts (A·Alphabet .labels .admits) (right-of job (now (states .entry)) (now (arcs .entry))) w)) ⌝
-    }
+pub fn product<A: Alphabet>(
+    states: &mut [State],
+    arcs: &mut [Arc<A::Label>],
+    job: Operands,
+) -> Result<Place, Stop>
+    ensures answers { λ r. ⌜ Answer (Ready job (now (states .entry)) (now (arcs .entry))) (A·Alphabet .labels) (product-of (A·Alphabet .labels) job (now (states .entry)) (now (arcs .entry)))
+        (job .used) (now (states .exit)) (now (arcs .exit)) r ⌝ }
+    ensures accepts_what_both_accept { λ r. ⌜ Meant r (λ p. (w : Word) → Accepts (A·Alphabet .labels .admits) (at (now (states .exit)) (now (arcs .exit)) p) w
+        ↔ (Accepts (A·Alphabet .labels .admits) (left-of job (now (states .entry)) (now (arcs .entry))) w × Accepts (A·Alphabet .labels .admits) (right-of job (now (states .entry)) (now (arcs .entry))) w)) ⌝ }
     ensures keeps_states { λ _. ⌜ Kept (job .used .states) (now (states .entry)) (now (states .exit)) ⌝ }
     ensures keeps_arcs { λ _. ⌜ Kept (job .used .arcs) (now (arcs .entry)) (now (arcs .exit)) ⌝ }
 {

@@ -51,8 +51,7 @@ arrow g c =
     let paired = c .pre .0 .0 in
     let d : Arc (g .A·Label .Denot) = record { from = 0; label = a .full; to = 0 } in
     let found = c .in-Some .ensures tt .finds in
-    let ready = paired .ready in
-    (
+    let ready = paired .ready in (
       omega (arith, arcs-count s arcs (job .used) (job .left) (ready .in-use) (ready .left), c .pre .1 .0),
       omega (arith, arcs-count s arcs (job .used) (job .right) (ready .in-use) (ready .right), c .pre .1 .1),
       subst (λ (z : Pair). product-of a job s arcs .State z) (found .1 ∙ (λ j. (c .from .ensures .reads d j, c .from-2 .ensures .reads d j))) (paired .numbers .each (c .in-Some .i) (found .0)),
@@ -101,5 +100,5 @@ returns g c =
     } in
     record {
       writes = subst (λ t. Kept (job .used .arcs) arcs t × Written a job s n t (e + 1) (Before (c .args .x) (c .args .y + 1))) (sym (c .put .ensures .writes))
-        (written-push a job s n arcs e (c .args .x) (c .args .y) (c .pre .0 .1) (c .pre .0 .0 .ready) b (arrow g (need.at·returns g c .In-Some)) for (omega arith));
+          (written-push a job s n arcs e (c .args .x) (c .args .y) (c .pre .0 .1) (c .pre .0 .0 .ready) b (arrow g (need.at·returns g c .In-Some)) for (omega arith));
     }

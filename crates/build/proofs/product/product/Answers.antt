@@ -1,0 +1,19 @@
+use mathlib.Core.Logic.{inl}
+use Rattle.build.specs.Pairs.{left-of, right-of}
+use Rattle.build.proofs.Producing.{built-product-exact}
+use Rattle.build.proofs.product.product.Needs as need
+
+pub returns : need.returns
+returns g c =
+    let a = g .A·Alphabet .labels in
+    let job = c .args .job in
+    let arcs = c .args .arcs .now in
+    let s = c .args .states .now in
+    let ready = c .ready .ensures .decides .0 (c .if-not-ready .left) in
+    let built = c .build .ensures in
+    record {
+      answers = inl (ready, built .builds);
+      accepts-what-both-accept = built-product-exact a (g .A·Alphabet·met .lawful) (left-of job s arcs) (right-of job s arcs) (job .used) (c .build .last .states) (c .build .last .arcs) (c .build .result) (built .builds);
+      keeps-states = built .keeps-states;
+      keeps-arcs = built .keeps-arcs;
+    }
