@@ -5,7 +5,7 @@ use mathlib.Core.Logic.{_⊎_, inl, inr, ⊎-elim}
 use Prim.Native.Nat.{ℕ, min, _+_, _-_, _≤_, _<_}
 use native.Mathlib.Omega.{arith}
 use lib.ListN.{length, getD, set}
-use Rattle.std.specs.shelf.Lists.{All, Has}
+use Rattle.std.specs.shelf.Lists.{Has}
 use Rattle.std.specs.Results.{ErrBy}
 use Rattle.std.specs.declared.result.Result.{Result}
 use Rattle.std.specs.declared.result.Result.the-variants.{Err}
@@ -25,9 +25,9 @@ use Rattle.build.specs.declared.Rows.{Rows}
 use Rattle.build.specs.declared.Stop.{Stop}
 use Rattle.build.specs.declared.Stop.the-variants.{StatesFull, ArcsFull, Outside}
 use Rattle.build.specs.Emitted.{Stands-for, Emitted, name-of, Paired, Before, Written, Wrote}
-use Rattle.build.specs.Pairs.{Pair, Distinct, pairs, left-of, right-of, product-of, Ready}
-use Rattle.build.specs.Tables.{part, at, arc-room, InUse, Lies, Stands, Kept}
-use Rattle.build.proofs.Exploring.{length-pairs, arcs-count}
+use Rattle.build.specs.Pairs.{Pair, pairs, left-of, right-of, product-of, Ready}
+use Rattle.build.specs.Tables.{part, at, arc-room, Lies, Stands, Kept}
+use Rattle.build.proofs.Exploring.{length-pairs}
 use Rattle.build.proofs.Keeping.{kept-more, kept-set, part-kept}
 use Rattle.build.proofs.Parts.{length-part, part-more}
 use Rattle.build.proofs.Places.{distinct-push, distinct-places}
@@ -102,59 +102,70 @@ module _ {L : Type 0} (job : Operands) (states : List State) (arcs arcs′ : Lis
     numbers = operands-arcs (λ m k. Numbers (product a (rows a m) (rows a k) .State) n (name-of job states n)) (h .numbers);
   }
 
-module _ {L : Type 0} (a : Labels L) (job : Operands) (states : List State) (n : ℕ) (arcs : List (Arc L)) (e x y : ℕ) (h : Written a job states n arcs e (Before x y)) where
-  before-more : (z : Pair) → Before x y z → Before x (y + 1) z
-  before-more z (inl low) = inl low
-  before-more z (inr here) = inr (here .0, omega (arith, here .1))
+module _ {S X L : Type 0} (N : Automaton L → Automaton L → Nfa S X L) (name : ℕ → S) (n : ℕ) (job : Operands) (states : List State) where
+  pub written-none : (arcs : List (Arc L)) (Looked : X → Type 0) → Ready job states arcs → ((z : X) → N (left-of job states arcs) (right-of job states arcs) .Arrow z → Looked z → ⊥) → Written N name n job states arcs 0 Looked
+  written-none arcs Looked ready none = record {
+    room = omega (arith, ready .in-use .arcs-fit);
+    sources = [];
+    emitted = emitted-none (N (left-of job states arcs) (right-of job states arcs)) name n;
+    looked = λ z has. absurd (omega (arith, has .1));
+    complete = λ z arrow before. absurd (none z arrow before);
+  }
 
-  before-last : (z : Pair) → Before x (y + 1) z → Before x y z ⊎ ((x, y) ≡ z)
-  before-last z (inl low) = inl (inl low)
-  before-last z (inr here) = ⊎-elim (λ same. inr (λ i. (sym (here .0) i, sym same i))) (λ other. inl (inr (here .0, omega (arith, here .1)))) (cases-eq (z .1) y)
-
-  not-yet : (z : Pair) → Before x y z → (x, y) ≡ z → ⊥
-  not-yet z (inl low) same = omega (arith, ap (λ (p : Pair). p .0) same)
-  not-yet z (inr here) same = omega (arith, here .1, ap (λ (p : Pair). p .1) same)
-
-  pub none-yet : Has (h .sources) (x, y) → ⊥
-  none-yet has = not-yet (x, y) (h .looked (x, y) has) refl
-
-  -- a pair of arcs that gives no arrow
-  pub written-pass : (product-of a job states arcs .Arrow (x, y) → ⊥) → Written a job states n arcs e (Before x (y + 1))
-  written-pass not = record {
+  -- more was looked at, and no arrow was among it
+  pub written-pass : (arcs : List (Arc L)) (e : ℕ) (Looked Looked′ : X → Type 0) → ((z : X) → Looked z → Looked′ z) → ((z : X) → N (left-of job states arcs) (right-of job states arcs) .Arrow z → Looked′ z → Looked z) → Written N name n job states arcs e Looked → Written N name n job states arcs e Looked′
+  written-pass arcs e Looked Looked′ more none h = record {
     room = h .room;
     sources = h .sources;
     emitted = h .emitted;
-    looked = λ z has. before-more z (h .looked z has);
-    complete = λ z arrow before. ⊎-elim (λ was. h .complete z arrow was) (λ same. absurd (not (subst (λ w. product-of a job states arcs .Arrow w) (sym same) arrow))) (before-last z before);
+    looked = λ z has. more z (h .looked z has);
+    complete = λ z arrow before. h .complete z arrow (none z arrow before);
   }
 
-  -- a pair of arcs that gives one
-  pub written-push : (ready : Ready job states arcs) (b : Arc L) → product-of a job states arcs .Arrow (x, y) → Stands-for (product-of a job states arcs) (name-of job states n) n b (x, y) → job .used .arcs + e < arc-room arcs → let arcs′ = set arcs (job .used .arcs + e) b in Kept (job .used .arcs) arcs arcs′ × Written a job states n arcs′ (e + 1) (Before x (y + 1))
-  written-push ready b arrow for low =
-      let u = job .used .arcs in
-      let arcs′ = set arcs (u + e) b in
-      let kept = kept-set u (u + e) arcs b (omega arith) in
-      let pushed = emitted-push (product-of a job states arcs) (name-of job states n) n (part arcs u e) (h .sources) b (x, y) (h .emitted) for arrow none-yet in
-      let rows′ = part-more arcs u e b (omega arith) in (
-        kept,
-        record {
-          room = omega (arith, kept .long);
-          sources = h .sources ++ (x, y) ∷ [];
-          emitted = operands-arcs job states arcs arcs′ ready kept (λ m k. Emitted (product a (rows a m) (rows a k)) (name-of job states n) n (part arcs′ u (e + 1)) (h .sources ++ (x, y) ∷ [])) (subst (λ r. Emitted (product-of a job states arcs) (name-of job states n) n r (h .sources ++ (x, y) ∷ [])) (sym rows′) pushed);
-          looked = λ z has. ⊎-elim (λ was. before-more z (h .looked z was)) (λ same. subst (Before x (y + 1)) same (inr (refl, omega arith))) (has-push-cases (h .sources) (x, y) z has);
-          complete = λ z arrow′ before.
-              let was = operands-arcs-were job states arcs arcs′ ready kept (λ m k. product a (rows a m) (rows a k) .Arrow z) arrow′ in
-              ⊎-elim (λ old. has-append-left (h .sources) ((x, y) ∷ []) z (h .complete z was old)) (λ same. subst (Has (h .sources ++ (x, y) ∷ [])) same (has-push (h .sources) (x, y))) (before-last z before);
-        },
-      )
+  -- one arrow more was looked at
+  module _ (arcs : List (Arc L)) (e : ℕ) (Looked Looked′ : X → Type 0) (x : X) (new : Looked x → ⊥) (h : Written N name n job states arcs e Looked) (arrow : N (left-of job states arcs) (right-of job states arcs) .Arrow x) where
+    pub written-push : Ready job states arcs → (b : Arc L) → Stands-for (N (left-of job states arcs) (right-of job states arcs)) name n b x → ((z : X) → Looked z → Looked′ z) → Looked′ x → ((z : X) → Looked′ z → Looked z ⊎ (x ≡ z)) → job .used .arcs + e < arc-room arcs →
+        let arcs′ = set arcs (job .used .arcs + e) b in Kept (job .used .arcs) arcs arcs′ × Written N name n job states arcs′ (e + 1) Looked′
+    written-push ready b for more here last low =
+        let u = job .used .arcs in
+        let arcs′ = set arcs (u + e) b in
+        let nfa = N (left-of job states arcs) (right-of job states arcs) in
+        let kept = kept-set u (u + e) arcs b (omega arith) in
+        let pushed = emitted-push nfa name n (part arcs u e) (h .sources) b x (h .emitted) for arrow (λ has. new (h .looked x has)) in
+        let rows′ = part-more arcs u e b (omega arith) in (
+          kept,
+          record {
+            room = omega (arith, kept .long);
+            sources = h .sources ++ x ∷ [];
+            emitted = operands-arcs job states arcs arcs′ ready kept (λ m k. Emitted (N m k) name n (part arcs′ u (e + 1)) (h .sources ++ x ∷ [])) (subst (λ r. Emitted nfa name n r (h .sources ++ x ∷ [])) (sym rows′) pushed);
+            looked = λ z has. ⊎-elim (λ was. more z (h .looked z was)) (λ same. subst Looked′ same here) (has-push-cases (h .sources) x z has);
+            complete = λ z arrow′ before.
+                let was = operands-arcs-were job states arcs arcs′ ready kept (λ m k. N m k .Arrow z) arrow′ in
+                ⊎-elim (λ old. has-append-left (h .sources) (x ∷ []) z (h .complete z was old)) (λ same. subst (Has (h .sources ++ x ∷ [])) same (has-push (h .sources) x)) (last z before);
+          },
+        )
 
-  pub written-full : product-of a job states arcs .Arrow (x, y) → arc-room arcs ≤ job .used .arcs + e → (f : ℕ → Pair) × MoreThan (product-of a job states arcs .Arrow) (arc-room arcs - job .used .arcs) f
-  written-full arrow full =
-      emitted-full (product-of a job states arcs) (name-of job states n) n (part arcs (job .used .arcs) e) (h .sources) (0, 0) (x, y) _ (h .emitted) arrow none-yet
-      (length-part arcs (job .used .arcs) e (omega (arith, h .room)) ∙ rest)
+    pub written-full : arc-room arcs ≤ job .used .arcs + e → (f : ℕ → X) × MoreThan (N (left-of job states arcs) (right-of job states arcs) .Arrow) (arc-room arcs - job .used .arcs) f
+    written-full full =
+        emitted-full (N (left-of job states arcs) (right-of job states arcs)) name n (part arcs (job .used .arcs) e) (h .sources) x x _ (h .emitted) arrow (λ has. new (h .looked x has))
+        (length-part arcs (job .used .arcs) e (omega (arith, h .room)) ∙ rest)
+      where
+        rest : e ≡ arc-room arcs - job .used .arcs
+        rest = omega (arith, h .room)
+
+  -- what stopped a later step stops the whole
+  pub wrote-stopped : (arcs t u : List (Arc L)) (P Q : X → Type 0) (e : Stop) (r : Result ℕ Stop) → Ready job states arcs → Kept (job .used .arcs) arcs t → ErrBy r (λ y. y ≡ e) → Wrote N name n job states t u P (Err e) → Wrote N name n job states arcs u Q r
+  wrote-stopped arcs t u P Q e r ready kept by h =
+      let p = err-from-errBy r by in
+      subst (Wrote N name n job states arcs u Q) (sym (p .1 ∙ ap Err (p .2))) (go e h)
     where
-      rest : e ≡ arc-room arcs - job .used .arcs
-      rest = omega (arith, h .room)
+      go : (e : Stop) → Wrote N name n job states t u P (Err e) → Wrote N name n job states arcs u Q (Err e)
+      go StatesFull h = absurd h
+      go Outside h = absurd h
+      go ArcsFull h = (
+        kept-more (job .used .arcs) arcs t u kept (h .0),
+        (h .1 .0, subst (λ k. MoreThan (N (left-of job states arcs) (right-of job states arcs) .Arrow) (k - job .used .arcs) (h .1 .0)) (ap (λ k. min k 1048576) (kept .long)) (operands-arcs-were job states arcs t ready kept (λ m k. MoreThan (N m k .Arrow) (arc-room t - job .used .arcs) (h .1 .0)) (h .1 .1))),
+      )
 
 -- a reachable pair has a row
 pub paired-has : {L : Type 0} (a : Labels L) (job : Operands) (states : List State) (arcs : List (Arc L)) (n : ℕ) (z : Pair) → Paired a job states arcs n → product-of a job states arcs .State z → Has (pairs job states n) z
@@ -162,40 +173,28 @@ paired-has a job states arcs n z h state =
     let i = h .numbers .every z state in
     subst (Has (pairs job states n)) (i .2) (has-getD (pairs job states n) (i .0) (0, 0) (rw (length-pairs job states n (h .fits)) (i .1)))
 
-module _ {L : Type 0} (a : Labels L) (job : Operands) (states : List State) (n : ℕ) where
-  pub written-none : (arcs : List (Arc L)) → Ready job states arcs → Written a job states n arcs 0 (Before 0 0)
-  written-none arcs ready = record {
-    room = omega (arith, ready .in-use .arcs-fit);
-    sources = [];
-    emitted = emitted-none (product-of a job states arcs) (name-of job states n) n;
-    looked = λ z has. absurd (omega (arith, has .1));
-    complete = λ z arrow before. absurd (⊎-elim (λ low. omega arith) (λ here. omega (arith, here .1)) before);
-  }
+-- the order of two loops
+pub before-more : (x y : ℕ) (z : Pair) → Before x y z → Before x (y + 1) z
+before-more x y z (inl low) = inl low
+before-more x y z (inr here) = inr (here .0, omega (arith, here .1))
 
-  -- after the last right arc the next left arc is at its first
-  pub written-row : (arcs : List (Arc L)) (e x y : ℕ) → Ready job states arcs → job .right .count .arcs ≤ y → Written a job states n arcs e (Before x y) → Written a job states n arcs e (Before (x + 1) 0)
-  written-row arcs e x y ready all h = record {
-    room = h .room;
-    sources = h .sources;
-    emitted = h .emitted;
-    looked = λ z has. ⊎-elim (λ low. inl (omega arith)) (λ here. inl (omega (arith, here .0))) (h .looked z has);
-    complete = λ z arrow before.
-        h .complete z arrow
-        (⊎-elim
-        (λ low. ⊎-elim (λ same. inr (same, omega (arith, arrow .1, arcs-count states arcs (job .used) (job .right) (ready .in-use) (ready .right)))) (λ other. inl (omega arith)) (cases-eq (z .0) x))
-        (λ here. absurd (omega (arith, here .1))) before);
-  }
+pub before-last : (x y : ℕ) (z : Pair) → Before x (y + 1) z → Before x y z ⊎ ((x, y) ≡ z)
+before-last x y z (inl low) = inl (inl low)
+before-last x y z (inr here) = ⊎-elim (λ same. inr (λ i. (sym (here .0) i, sym same i))) (λ other. inl (inr (here .0, omega (arith, here .1)))) (cases-eq (z .1) y)
 
-  -- what stopped a later step stops the whole
-  pub wrote-stopped : (arcs t u : List (Arc L)) (P Q : Pair → Type 0) (e : Stop) (r : Result ℕ Stop) → Ready job states arcs → Kept (job .used .arcs) arcs t → ErrBy r (λ y. y ≡ e) → Wrote a job states n t u P (Err e) → Wrote a job states n arcs u Q r
-  wrote-stopped arcs t u P Q e r ready kept by h =
-      let p = err-from-errBy r by in
-      subst (Wrote a job states n arcs u Q) (sym (p .1 ∙ ap Err (p .2))) (go e h)
-    where
-      go : (e : Stop) → Wrote a job states n t u P (Err e) → Wrote a job states n arcs u Q (Err e)
-      go StatesFull h = absurd h
-      go Outside h = absurd h
-      go ArcsFull h = (
-        kept-more (job .used .arcs) arcs t u kept (h .0),
-        (h .1 .0, subst (λ k. MoreThan (product-of a job states arcs .Arrow) (k - job .used .arcs) (h .1 .0)) (ap (λ k. min k 1048576) (kept .long)) (operands-arcs-were job states arcs t ready kept (λ m k. MoreThan (product a (rows a m) (rows a k) .Arrow) (arc-room t - job .used .arcs) (h .1 .0)) (h .1 .1))),
-      )
+pub not-before : (x y : ℕ) → Before x y (x, y) → ⊥
+not-before x y (inl low) = omega arith
+not-before x y (inr here) = omega (arith, here .1)
+
+pub before-none : (z : Pair) → Before 0 0 z → ⊥
+before-none z (inl low) = omega arith
+before-none z (inr here) = omega (arith, here .1)
+
+-- after its last turn the inner loop is at the outer loop's next turn
+pub before-row : (x y : ℕ) (z : Pair) → Before x y z → Before (x + 1) 0 z
+before-row x y z (inl low) = inl (omega arith)
+before-row x y z (inr here) = inl (omega (arith, here .0))
+
+pub row-before : (x y : ℕ) (z : Pair) → z .1 < y → Before (x + 1) 0 z → Before x y z
+row-before x y z within (inl low) = ⊎-elim (λ same. inr (same, within)) (λ other. inl (omega arith)) (cases-eq (z .0) x)
+row-before x y z within (inr here) = absurd (omega (arith, here .1))

@@ -1,11 +1,10 @@
 -- Exploring the reachable pairs: what each added row keeps, and what is known when all are there.
 use mathlib.Core.Path.{_≡_, refl, sym, ap, subst, _∙_}
-use mathlib.Core.Bool.{Bool, true, false, cond}
+use mathlib.Core.Bool.{true}
 use mathlib.Core.List.{List, [], _∷_, _++_, map, append-nil, append-assoc}
 use mathlib.Core.Logic.{⊎-elim}
 use Prim.Native.Nat.{ℕ, min, _+_, _-_, _≤_, _<_}
 use native.Mathlib.Omega.{arith}
-use lib.Dec.{ltb}
 use lib.ListN.{length, getD, set}
 use Rattle.std.specs.shelf.Lists.{All, Has}
 use Rattle.std.specs.Results.{ErrBy}
@@ -14,12 +13,12 @@ use Rattle.std.specs.declared.result.Result.the-variants.{Ok, Err}
 use Rattle.std.proofs.shelf.Results.{err-from-errBy}
 use Rattle.std.proofs.shelf.Elements.{all-push, all-getD, all-from-getD, all-has, has-getD, has-push, has-append-left}
 use Rattle.std.proofs.shelf.Lists.{length-map, length-push, getD-map, getD-append-left, map-append}
-use Rattle.std.proofs.shelf.Tests.{cases-lt, cases-eq, cond-true, cond-false, lt-ltb, le-ltb}
+use Rattle.std.proofs.shelf.Tests.{cases-eq}
 use Rattle.alphabet.specs.Labels.{Labels}
 use Rattle.automaton.specs.declared.Arc.{Arc}
 use Rattle.automaton.specs.declared.State.{State}
 use Rattle.automaton.specs.Automaton.{Automaton, initial, arc-at, unmarked}
-use Rattle.automaton.specs.Nfa.{Nfa, Meets, Reachable, begin, go, rows, product}
+use Rattle.automaton.specs.Nfa.{Meets, Reachable, begin, go, rows, product}
 use Rattle.automaton.specs.Numbers.{Numbers, MoreThan}
 use Rattle.automaton.proofs.Counting.{numbers-list}
 use Rattle.build.specs.declared.Operands.{Operands}
@@ -30,7 +29,7 @@ use Rattle.build.specs.declared.Stop.the-variants.{StatesFull, ArcsFull, Outsi
 use Rattle.build.specs.Outcome.{NoStates}
 use Rattle.build.specs.Pairs.{Pair, pair-of, pairs, left-of, right-of, product-of, marks-of, both, Ready, Sofar, Grown, Extended, Distinct, BegunAt, Begun, ClosedBy, ClosedAt, Closed}
 use Rattle.build.specs.Tables.{part, at, state-room, Kept, InUse, Stands, arc-in}
-use Rattle.build.proofs.Keeping.{kept-none, kept-more, kept-set, part-kept, at-kept, in-use-kept, stands-kept}
+use Rattle.build.proofs.Keeping.{kept-none, kept-more, kept-set, at-kept, in-use-kept, stands-kept}
 use Rattle.build.proofs.Parts.{length-part, getD-part, part-more}
 use Rattle.build.proofs.Places.{distinct-push, distinct-places}
 

@@ -3,7 +3,6 @@ use mathlib.Core.Path.{_≡_, refl, subst}
 use mathlib.Core.Bool.{true, false}
 use mathlib.Core.List.{List}
 use Prim.Native.Nat.{ℕ, _+_, _≤_, _<_}
-use native.Mathlib.Omega.{arith}
 use lib.ListN.{length, getD}
 use Rattle.std.specs.Options.{isSome, Cases}
 use Rattle.std.specs.shelf.Lists.{Has}
@@ -13,7 +12,7 @@ use Rattle.std.proofs.shelf.Elements.{has-getD}
 use Rattle.std.proofs.shelf.Tests.{both-ways}
 use Rattle.automaton.specs.declared.State.{State}
 use Rattle.build.specs.declared.Operands.{Operands}
-use Rattle.build.specs.Pairs.{Pair, pairs}
+use Rattle.build.specs.Pairs.{pairs}
 use Rattle.build.proofs.Exploring.{length-pairs}
 
 pub found-has : (job : Operands) (states : List State) (n p q : ℕ) → job .used .states + n ≤ length states → (o : Option ℕ) → Cases o (Has (pairs job states n) (p, q) → ⊥) (λ i. (i < n) × (getD (pairs job states n) i (0, 0) ≡ (p, q))) → isSome o ≡ true → Has (pairs job states n) (p, q)

@@ -1,13 +1,13 @@
 -- What rows that are kept still say.
 use mathlib.Core.Path.{_≡_, refl, sym, ap, subst, _∙_}
-use mathlib.Core.List.{List, _++_}
-use Prim.Native.Nat.{ℕ, _+_, _≤_, _<_}
+use mathlib.Core.List.{List}
+use Prim.Native.Nat.{ℕ, _+_, _≤_}
 use native.Mathlib.Omega.{arith}
-use lib.ListN.{length, set, take, drop}
+use lib.ListN.{set, take, drop}
 use Rattle.std.proofs.shelf.Lists.{length-set, take-take, take-set-le, drop-take}
 use Rattle.automaton.specs.declared.Arc.{Arc}
 use Rattle.automaton.specs.declared.State.{State}
-use Rattle.automaton.specs.Automaton.{Automaton, Inside, of-rows}
+use Rattle.automaton.specs.Automaton.{Inside, of-rows}
 use Rattle.build.specs.declared.Rows.{Rows}
 use Rattle.build.specs.declared.Place.{Place}
 use Rattle.build.specs.Tables.{part, at, InUse, Lies, Stands, Kept}

@@ -1,20 +1,19 @@
 -- Rows of a part of a table.
-use mathlib.Core.Path.{_≡_, sym, ap, subst, _∙_}
-use mathlib.Core.List.{List, [], _∷_, _++_, map}
+use mathlib.Core.Path.{_≡_, ap, subst, _∙_}
+use mathlib.Core.List.{List, [], _∷_, _++_}
 use mathlib.Core.Logic.{_↔_}
 use Prim.Native.Nat.{ℕ, _+_, _≤_, _<_}
-use native.Mathlib.Nat.{add-zero}
 use native.Mathlib.Omega.{arith}
 use lib.ListN.{length, getD, set, take, drop}
 use Rattle.std.specs.shelf.Lists.{Has}
 use Rattle.std.proofs.shelf.Elements.{has-getD}
-use Rattle.std.proofs.shelf.Lists.{length-take, length-drop, length-map, length-set, getD-take, getD-drop, getD-default, getD-map, drop-set-add, take-more-set, take-take, take-set-le, drop-take}
+use Rattle.std.proofs.shelf.Lists.{length-take, length-drop, length-map, getD-take, getD-drop, getD-default, drop-set-add, take-more-set}
 use Rattle.automaton.specs.declared.Arc.{Arc}
 use Rattle.automaton.specs.declared.State.{State}
 use Rattle.automaton.specs.Automaton.{Inside}
 use Rattle.build.specs.declared.Rows.{Rows}
 use Rattle.build.specs.declared.Place.{Place}
-use Rattle.build.specs.Tables.{part, at, Lies, Kept}
+use Rattle.build.specs.Tables.{part, at}
 
 module _ {X : Type 0} (xs : List X) (first n : ℕ) (fits : first + n ≤ length xs) where
   pub length-part : length (part xs first n) ≡ n

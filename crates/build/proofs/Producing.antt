@@ -14,12 +14,12 @@ use Rattle.std.specs.declared.result.Result.the-variants.{Ok, Err}
 use Rattle.std.proofs.shelf.Results.{err-from-errBy}
 use Rattle.std.proofs.shelf.Elements.{all-getD}
 use Rattle.std.proofs.shelf.Lists.{length-map, getD-map}
-use Rattle.std.proofs.shelf.Ways.{decides-and, decides-like}
+use Rattle.std.proofs.shelf.Ways.{decides-and}
 use Rattle.alphabet.specs.Labels.{Labels, Lawful}
 use Rattle.automaton.specs.declared.Arc.{Arc}
 use Rattle.automaton.specs.declared.Marks.{Marks}
 use Rattle.automaton.specs.declared.State.{State}
-use Rattle.automaton.specs.Automaton.{Automaton, Word, Accepts, initial, accepting, unmarked, arc-at, of-rows}
+use Rattle.automaton.specs.Automaton.{Automaton, Word, Accepts, initial, accepting, unmarked, of-rows}
 use Rattle.automaton.specs.Nfa.{Nfa, Realizes, rows, product}
 use Rattle.automaton.specs.Numbers.{Numbers, MoreThan}
 use Rattle.automaton.proofs.Counting.{numbers-list}
@@ -32,8 +32,8 @@ use Rattle.build.specs.declared.Stop.{Stop}
 use Rattle.build.specs.declared.Stop.the-variants.{StatesFull, ArcsFull, Outside}
 use Rattle.build.specs.Emitted.{Emitted, name-of, Paired, Before, Written, Wrote}
 use Rattle.build.specs.Outcome.{Built, NoStates, NoArcs, Outcome, Meant}
-use Rattle.build.specs.Pairs.{Pair, pair-of, pairs, both, left-of, right-of, product-of, marks-of, Ready, Sofar, Extended}
-use Rattle.build.specs.Tables.{part, at, state-room, arc-room, Kept}
+use Rattle.build.specs.Pairs.{Pair, pair-of, both, left-of, right-of, products, product-of, marks-of, Ready, Extended}
+use Rattle.build.specs.Tables.{part, at, arc-room, Kept}
 use Rattle.build.proofs.Emitting.{operands-arcs, operands-arcs-were}
 use Rattle.build.proofs.Exploring.{length-pairs, operands-kept, operands-were, ready-kept, arcs-count}
 use Rattle.build.proofs.Parts.{length-part}
@@ -88,7 +88,7 @@ module _ {L : Type 0} (a : Labels L) (job : Operands) (s t : List State) (arcs u
       let marked = operands-were a job arcs s t ready kept (λ m k. All (λ r. r .marks ≡ both (getD (m .states) (r .left) unmarked) (getD (k .states) (r .right) unmarked)) mine) (explored .0 .marked) in
       getD-map (λ r. r .marks) mine q blank unmarked within ∙ all-getD (λ r. r .marks ≡ marks-of job s arcs (r .left) (r .right)) mine q blank within marked ∙ ap (λ (z : Pair). marks-of job s arcs (z .0) (z .1)) (sym pair)
 
-  module _ (e : ℕ) (w : Kept (job .used .arcs) arcs u × Written a job t n u e (Before (job .left .count .arcs) 0)) where
+  module _ (e : ℕ) (w : Kept (job .used .arcs) arcs u × Written (products a) (name-of job t n) n job t u e (Before (job .left .count .arcs) 0)) where
     built : Automaton L
     built = of-rows (part t (job .used .states) n) (part u (job .used .arcs) e)
 
@@ -154,13 +154,13 @@ module _ {L : Type 0} (a : Labels L) (job : Operands) (s t : List State) (arcs u
       go Outside h = absurd h
 
   -- a writing of arcs that stopped
-  pub emit-stopped : (n : ℕ) → Ready job s arcs → Extended a job arcs s t 0 (λ ps. Numbers (product-of a job s arcs .State) (length ps) (λ i. getD ps i (0, 0))) (Ok n) → (P : Pair → Type 0) (e : Stop) (r : Result Place Stop) → ErrBy r (λ y. y ≡ e) → Wrote a job t n arcs u P (Err e) →
+  pub emit-stopped : (n : ℕ) → Ready job s arcs → Extended a job arcs s t 0 (λ ps. Numbers (product-of a job s arcs .State) (length ps) (λ i. getD ps i (0, 0))) (Ok n) → (P : Pair → Type 0) (e : Stop) (r : Result Place Stop) → ErrBy r (λ y. y ≡ e) → Wrote (products a) (name-of job t n) n job t arcs u P (Err e) →
       Outcome a (product-of a job s arcs) (job .used) t u r × Kept (job .used .arcs) arcs u
   emit-stopped n ready explored P e r by h =
       let p = err-from-errBy r by in
       subst (λ x. Outcome a (product-of a job s arcs) (job .used) t u x × Kept (job .used .arcs) arcs u) (sym (p .1 ∙ ap Err (p .2))) (go e h)
     where
-      go : (e : Stop) → Wrote a job t n arcs u P (Err e) → Outcome a (product-of a job s arcs) (job .used) t u (Err e) × Kept (job .used .arcs) arcs u
+      go : (e : Stop) → Wrote (products a) (name-of job t n) n job t arcs u P (Err e) → Outcome a (product-of a job s arcs) (job .used) t u (Err e) × Kept (job .used .arcs) arcs u
       go ArcsFull h = (product-no-arcs a job s t arcs u n ready explored h, h .0)
       go StatesFull h = absurd h
       go Outside h = absurd h

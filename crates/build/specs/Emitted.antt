@@ -10,12 +10,13 @@ use Rattle.std.specs.declared.result.Result.the-variants.{Ok, Err}
 use Rattle.alphabet.specs.Labels.{Labels}
 use Rattle.automaton.specs.declared.State.{State}
 use Rattle.automaton.specs.declared.Arc.{Arc}
+use Rattle.automaton.specs.Automaton.{Automaton}
 use Rattle.automaton.specs.Nfa.{Nfa}
 use Rattle.automaton.specs.Numbers.{Numbers, MoreThan}
 use Rattle.build.specs.declared.Operands.{Operands}
 use Rattle.build.specs.declared.Stop.{Stop}
 use Rattle.build.specs.declared.Stop.the-variants.{StatesFull, ArcsFull, Outside}
-use Rattle.build.specs.Pairs.{Pair, Distinct, pairs, product-of, Ready}
+use Rattle.build.specs.Pairs.{Pair, Distinct, pairs, left-of, right-of, product-of, Ready}
 use Rattle.build.specs.Tables.{arc-room, part, Kept}
 
 -- the row leads from state to state as the arrow e does, on the same label, where states below n have names
@@ -47,17 +48,17 @@ pub record Paired {L : Type 0} (a : Labels L) (job : Operands) (states : List St
 abbrev pub Before : ℕ → ℕ → Pair → Type 0
 Before x y z = (z .0 < x) ⊎ ((z .0 ≡ x) × (z .1 < y))
 
--- e rows are written, for the arrows of a product among the pairs of arcs that were looked at
-pub record Written {L : Type 0} (a : Labels L) (job : Operands) (states : List State) (n : ℕ) (arcs : List (Arc L)) (e : ℕ) (Looked : Pair → Type 0) : Type 0 where
+-- e rows are written for arrows of a build N of the two operands, for those that were looked at
+pub record Written {S X L : Type 0} (N : Automaton L → Automaton L → Nfa S X L) (name : ℕ → S) (n : ℕ) (job : Operands) (states : List State) (arcs : List (Arc L)) (e : ℕ) (Looked : X → Type 0) : Type 0 where
   pub room : job .used .arcs + e ≤ arc-room arcs
-  pub sources : List Pair
-  pub emitted : Emitted (product-of a job states arcs) (name-of job states n) n (part arcs (job .used .arcs) e) sources
-  pub looked : (z : Pair) → Has sources z → Looked z
-  pub complete : (z : Pair) → product-of a job states arcs .Arrow z → Looked z → Has sources z
+  pub sources : List X
+  pub emitted : Emitted (N (left-of job states arcs) (right-of job states arcs)) name n (part arcs (job .used .arcs) e) sources
+  pub looked : (z : X) → Has sources z → Looked z
+  pub complete : (z : X) → N (left-of job states arcs) (right-of job states arcs) .Arrow z → Looked z → Has sources z
 
 -- rows were written for what was looked at, or there are more arrows than room
-abbrev pub Wrote : {L : Type 0} → Labels L → Operands → List State → ℕ → List (Arc L) → List (Arc L) → (Pair → Type 0) → Result ℕ Stop → Type 0
-Wrote a job states n before after Looked (Ok e) = Kept (job .used .arcs) before after × Written a job states n after e Looked
-Wrote a job states n before after Looked (Err ArcsFull) = Kept (job .used .arcs) before after × ((f : ℕ → Pair) × MoreThan (product-of a job states before .Arrow) (arc-room before - job .used .arcs) f)
-Wrote a job states n before after Looked (Err StatesFull) = ⊥
-Wrote a job states n before after Looked (Err Outside) = ⊥
+abbrev pub Wrote : {S X L : Type 0} → (Automaton L → Automaton L → Nfa S X L) → (ℕ → S) → ℕ → Operands → List State → List (Arc L) → List (Arc L) → (X → Type 0) → Result ℕ Stop → Type 0
+Wrote N name n job states before after Looked (Ok e) = Kept (job .used .arcs) before after × Written N name n job states after e Looked
+Wrote {X = X} N name n job states before after Looked (Err ArcsFull) = Kept (job .used .arcs) before after × ((f : ℕ → X) × MoreThan (N (left-of job states before) (right-of job states before) .Arrow) (arc-room before - job .used .arcs) f)
+Wrote N name n job states before after Looked (Err StatesFull) = ⊥
+Wrote N name n job states before after Looked (Err Outside) = ⊥

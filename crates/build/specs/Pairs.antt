@@ -12,7 +12,7 @@ use Rattle.automaton.specs.declared.Marks.{Marks}
 use Rattle.automaton.specs.declared.State.{State}
 use Rattle.automaton.specs.declared.Arc.{Arc}
 use Rattle.automaton.specs.Automaton.{Automaton, initial, arc-at, unmarked}
-use Rattle.automaton.specs.Nfa.{Nfa, Meets, Reachable, rows, product}
+use Rattle.automaton.specs.Nfa.{Nfa, Meets, rows, product}
 use Rattle.build.specs.declared.Stop.{Stop}
 use Rattle.build.specs.declared.Stop.the-variants.{StatesFull, ArcsFull, Outside}
 use Rattle.build.specs.declared.Operands.{Operands}
@@ -41,9 +41,12 @@ left-of job states arcs = at states arcs (job .left)
 abbrev pub right-of : {L : Type 0} → Operands → List State → List (Arc L) → Automaton L
 right-of job states arcs = at states arcs (job .right)
 
+abbrev pub products : {L : Type 0} → Labels L → Automaton L → Automaton L → Nfa Pair Pair L
+products a m k = product a (rows a m) (rows a k)
+
 -- the product of the two operands
 abbrev pub product-of : {L : Type 0} → Labels L → Operands → List State → List (Arc L) → Nfa Pair Pair L
-product-of a job states arcs = product a (rows a (left-of job states arcs)) (rows a (right-of job states arcs))
+product-of a job states arcs = products a (left-of job states arcs) (right-of job states arcs)
 
 -- the rows in use lie in the tables, and both operands stand among them
 pub record Ready {L : Type 0} (job : Operands) (states : List State) (arcs : List (Arc L)) : Type 0 where

@@ -1,11 +1,10 @@
 // The reachable pairs of a product: one state row for each, with the pair in its two numbers.
-ghost use Prim.Native.Nat.{ℕ, _+_, _≤_, _<_};
+ghost use Prim.Native.Nat.{_+_, _≤_, _<_};
 ghost use mathlib.Core.Path.{_≡_};
 ghost use mathlib.Core.Bool.{true};
-ghost use mathlib.Core.List.{List};
 ghost use lib.ListN.{length, getD};
 ghost use Rattle.std.specs.Options.{isSome, Cases as BySome};
-ghost use Rattle.std.specs.shelf.Lists.{Has, All};
+ghost use Rattle.std.specs.shelf.Lists.{Has};
 ghost use Rattle.automaton.specs.Automaton.{initial};
 ghost use Rattle.automaton.specs.Numbers.{Numbers};
 ghost use Rattle.build.specs.Tables.{arc-in};

@@ -1,12 +1,11 @@
 // The product of two automata: reachable pairs of states, and the pairs of arcs that leave them and whose labels meet.
-ghost use Prim.Native.Nat.{ℕ, _+_, _≤_, _<_};
-ghost use mathlib.Core.Path.{_≡_};
+ghost use Prim.Native.Nat.{_+_, _<_};
 ghost use mathlib.Core.Logic.{_↔_};
 ghost use Rattle.std.specs.Orderings.{Decides};
 ghost use Rattle.automaton.specs.Automaton.{Accepts, Word};
-ghost use Rattle.build.specs.Emitted.{Paired, Before, Written, Wrote};
+ghost use Rattle.build.specs.Emitted.{name-of, Paired, Before, Written, Wrote};
 ghost use Rattle.build.specs.Outcome.{Outcome, Answer, Meant};
-ghost use Rattle.build.specs.Pairs.{Ready, product-of, left-of, right-of};
+ghost use Rattle.build.specs.Pairs.{Ready, products, product-of, left-of, right-of};
 ghost use Rattle.build.specs.Tables.{Kept, at};
 use crate::Operands;
 use crate::Place;
@@ -36,9 +35,9 @@ fn emit_pair<A: Alphabet>(
     x: usize,
     y: usize,
 ) -> Result<usize, Stop>
-    requires { ⌜ Paired (A·Alphabet .labels) job (now states) (now arcs) n ⌝ ∗ ⌜ Written (A·Alphabet .labels) job (now states) n (now arcs) e (Before x y) ⌝ }
+    requires { ⌜ Paired (A·Alphabet .labels) job (now states) (now arcs) n ⌝ ∗ ⌜ Written (products (A·Alphabet .labels)) (name-of job (now states) n) n job (now states) (now arcs) e (Before x y) ⌝ }
     requires { ⌜ x < job .left .count .arcs ⌝ ∗ ⌜ y < job .right .count .arcs ⌝ }
-    ensures writes { λ r. ⌜ Wrote (A·Alphabet .labels) job (now (states .entry)) n (now (arcs .entry)) (now (arcs .exit)) (Before x (y + 1)) r ⌝ }
+    ensures writes { λ r. ⌜ Wrote (products (A·Alphabet .labels)) (name-of job (now (states .entry)) n) n job (now (states .entry)) (now (arcs .entry)) (now (arcs .exit)) (Before x (y + 1)) r ⌝ }
 {
     if !meets::<A>(arcs, job, x, y) {
         return Ok(e);
@@ -87,9 +86,9 @@ fn emit_arc<A: Alphabet>(
     e: usize,
     x: usize,
 ) -> Result<usize, Stop>
-    requires { ⌜ Paired (A·Alphabet .labels) job (now states) (now arcs) n ⌝ ∗ ⌜ Written (A·Alphabet .labels) job (now states) n (now arcs) e (Before x 0) ⌝ }
+    requires { ⌜ Paired (A·Alphabet .labels) job (now states) (now arcs) n ⌝ ∗ ⌜ Written (products (A·Alphabet .labels)) (name-of job (now states) n) n job (now states) (now arcs) e (Before x 0) ⌝ }
     requires { ⌜ x < job .left .count .arcs ⌝ }
-    ensures writes { λ r. ⌜ Wrote (A·Alphabet .labels) job (now (states .entry)) n (now (arcs .entry)) (now (arcs .exit)) (Before (x + 1) 0) r ⌝ }
+    ensures writes { λ r. ⌜ Wrote (products (A·Alphabet .labels)) (name-of job (now (states .entry)) n) n job (now (states .entry)) (now (arcs .entry)) (now (arcs .exit)) (Before (x + 1) 0) r ⌝ }
 {
     let mut written = e;
     for y in 0..job.right.count.arcs {
@@ -106,7 +105,7 @@ fn emit<A: Alphabet>(
     n: usize,
 ) -> Result<usize, Stop>
     requires { ⌜ Paired (A·Alphabet .labels) job (now states) (now arcs) n ⌝ }
-    ensures writes { λ r. ⌜ Wrote (A·Alphabet .labels) job (now (states .entry)) n (now (arcs .entry)) (now (arcs .exit)) (Before (job .left .count .arcs) 0) r ⌝ }
+    ensures writes { λ r. ⌜ Wrote (products (A·Alphabet .labels)) (name-of job (now (states .entry)) n) n job (now (states .entry)) (now (arcs .entry)) (now (arcs .exit)) (Before (job .left .count .arcs) 0) r ⌝ }
 {
     let mut written = 0;
     for x in 0..job.left.count.arcs {

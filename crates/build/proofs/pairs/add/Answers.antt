@@ -1,18 +1,15 @@
-use mathlib.Core.Path.{_≡_, refl, sym, ap, subst, _∙_}
+use mathlib.Core.Path.{_≡_, sym, subst}
 use Prim.Native.Nat.{_+_}
 use native.Mathlib.Omega.{arith}
-use lib.ListN.{set, getD}
+use lib.ListN.{set}
 use Rattle.std.specs.shelf.Lists.{Has}
-use Rattle.std.specs.Options.{isSome}
-use Rattle.std.proofs.shelf.Elements.{has-getD}
 use Rattle.automaton.specs.declared.State.{State}
 use Rattle.build.specs.Pairs.{pairs, Sofar, Grown}
-use Rattle.build.proofs.Exploring.{grown-none, length-pairs, row-of, sofar-add, no-room}
+use Rattle.build.proofs.Exploring.{grown-none, row-of, sofar-add, no-room}
 use Rattle.build.proofs.Keeping.{kept-none}
 use Rattle.build.proofs.Finding.{found-has, missing}
 use Rattle.build.proofs.pairs.add.Given as given
 use Rattle.build.proofs.pairs.add.Needs as need
-use Rattle.build.proofs.pairs.add.Needs.{After-row}
 
 pub returns-then-is-some : need.returns-then-is-some
 returns-then-is-some g c =

@@ -1,5 +1,5 @@
 use Rattle.std.specs.declared.result.Result.the-variants.{Ok}
-use Rattle.build.specs.Pairs.{left-of, right-of, Extended}
+use Rattle.build.specs.Pairs.{right-of, Extended}
 use Rattle.build.proofs.Exploring.{BegunBelow}
 use Rattle.build.proofs.pairs.begin_at.Given as given
 

@@ -6,7 +6,7 @@ use Rattle.std.proofs.shelf.Elements.{all-getD}
 use Rattle.std.proofs.shelf.Lists.{length-append}
 use Rattle.automaton.specs.declared.State.{State}
 use Rattle.automaton.specs.Automaton.{unmarked}
-use Rattle.build.specs.Pairs.{Pair, pairs, left-of, right-of, product-of, ClosedAt, Closed}
+use Rattle.build.specs.Pairs.{pairs, left-of, right-of, product-of, ClosedAt, Closed}
 use Rattle.build.proofs.Exploring.{ClosedUpTo, ready-kept, pair-at, length-pairs, extended-none, closed-more, closed-all, stopped-by}
 use Rattle.build.proofs.pairs.close.Given as given
 use Rattle.build.proofs.pairs.close.Needs as need

@@ -1,7 +1,7 @@
 use mathlib.Core.Path.{_≡_, refl, sym, ap, subst, subst₂, _∙_}
 use mathlib.Core.List.{List}
 use mathlib.Core.Logic.{⊎-elim}
-use Prim.Native.Nat.{ℕ, _+_, _<_}
+use Prim.Native.Nat.{ℕ, _+_}
 use native.Mathlib.Omega.{arith}
 use Rattle.std.specs.shelf.Lists.{Has}
 use Rattle.std.specs.declared.result.Result.the-variants.{Ok}
@@ -12,7 +12,7 @@ use Rattle.automaton.specs.Automaton.{arc-at}
 use Rattle.automaton.specs.Nfa.{Meets, Reachable, rows, go}
 use Rattle.build.specs.Pairs.{pairs, left-of, right-of, Extended, ClosedBy}
 use Rattle.build.specs.Tables.{arc-in}
-use Rattle.build.proofs.Exploring.{ClosedBelow, ready-kept, operands-kept, arc-inside, arcs-count, states-count, extended-none, extended-ok, extended-then, stopped-by}
+use Rattle.build.proofs.Exploring.{ClosedBelow, ready-kept, operands-kept, arc-inside, arcs-count, extended-none, extended-ok, extended-then, stopped-by}
 use Rattle.build.proofs.pairs.close_by.Needs as need
 use Rattle.build.proofs.pairs.close_by.Needs.{then-from-q·then-meets·in-Continue-built, else-from-q, else-from-q·by·then-from-q·else-meets, else-from-q·by·else-from-q}
 

@@ -1,13 +1,14 @@
 use mathlib.Core.Path.{_≡_, subst}
 use native.Mathlib.Omega.{arith}
 use Prim.Native.Nat.{_+_}
-use Rattle.build.specs.Emitted.{Before, Written}
-use Rattle.build.proofs.Emitting.{paired-arcs, written-none, wrote-stopped}
+use Rattle.build.specs.Emitted.{name-of, Before, Written}
+use Rattle.build.specs.Pairs.{products}
+use Rattle.build.proofs.Emitting.{paired-arcs, written-none, wrote-stopped, before-none}
 use Rattle.build.proofs.Keeping.{kept-none, kept-more}
 use Rattle.build.proofs.product.emit.Needs as need
 
 pub loop-x-holds : need.loop-x-holds
-loop-x-holds g c = (kept-none (c .args .job .used .arcs) (c .args .arcs .now), written-none (g .A·Alphabet .labels) (c .args .job) (c .args .states .now) (c .args .n) (c .args .arcs .now) (c .pre .ready))
+loop-x-holds g c = (kept-none (c .args .job .used .arcs) (c .args .arcs .now), written-none (products (g .A·Alphabet .labels)) (name-of (c .args .job) (c .args .states .now) (c .args .n)) (c .args .n) (c .args .job) (c .args .states .now) (c .args .arcs .now) (Before 0 0) (c .pre .ready) (λ z arrow. before-none z))
 
 pub emit-arc-requires : need.emit-arc-requires
 emit-arc-requires g c κs =
@@ -16,7 +17,7 @@ emit-arc-requires g c κs =
 pub returns-in-Break-written : need.returns-in-Break-written
 returns-in-Break-written g c =
     record {
-      writes = wrote-stopped (g .A·Alphabet .labels) (c .args .job) (c .args .states .now) (c .args .n) (c .args .arcs .now) (c .loop-x .arcs) (c .emit-arc .last .arcs) (Before (c .loop-x .x + 1) 0) (Before (c .args .job .left .count .arcs) 0)
+      writes = wrote-stopped (products (g .A·Alphabet .labels)) (name-of (c .args .job) (c .args .states .now) (c .args .n)) (c .args .n) (c .args .job) (c .args .states .now) (c .args .arcs .now) (c .loop-x .arcs) (c .emit-arc .last .arcs) (Before (c .loop-x .x + 1) 0) (Before (c .args .job .left .count .arcs) 0)
           (c .in-Break-written .field-0 .0) (c .from-residual .result) (c .pre .ready) (c .loop-x .inv .0) (c .from-residual .ensures .1) (c .in-Break-written .ensures tt .writes);
     }
 
@@ -28,4 +29,4 @@ loop-x-again g c =
 pub returns : need.returns
 returns g c =
     let all : c .loop-x .x ≡ c .args .job .left .count .arcs = omega arith in
-    record { writes = (c .loop-x .inv .0, subst (λ x. Written (g .A·Alphabet .labels) (c .args .job) (c .args .states .now) (c .args .n) (c .loop-x .arcs) (c .loop-x .written) (Before x 0)) all (c .loop-x .inv .1)) }
+    record { writes = (c .loop-x .inv .0, subst (λ x. Written (products (g .A·Alphabet .labels)) (name-of (c .args .job) (c .args .states .now) (c .args .n)) (c .args .n) (c .args .job) (c .args .states .now) (c .loop-x .arcs) (c .loop-x .written) (Before x 0)) all (c .loop-x .inv .1)) }

@@ -1,7 +1,9 @@
 use native.Mathlib.Omega.{arith}
 use Prim.Native.Nat.{_+_}
-use Rattle.build.specs.Emitted.{Before}
-use Rattle.build.proofs.Emitting.{ready-arcs, paired-arcs, written-row, wrote-stopped}
+use Rattle.build.specs.Emitted.{name-of, Before}
+use Rattle.build.specs.Pairs.{products}
+use Rattle.build.proofs.Emitting.{ready-arcs, paired-arcs, written-pass, wrote-stopped, before-row, row-before}
+use Rattle.build.proofs.Exploring.{arcs-count}
 use Rattle.build.proofs.Keeping.{kept-none, kept-more}
 use Rattle.build.proofs.product.emit_arc.Needs as need
 
@@ -15,7 +17,7 @@ emit-pair-requires g c κs =
 pub returns-in-Break-written : need.returns-in-Break-written
 returns-in-Break-written g c =
     record {
-      writes = wrote-stopped (g .A·Alphabet .labels) (c .args .job) (c .args .states .now) (c .args .n) (c .args .arcs .now) (c .loop-y .arcs) (c .emit-pair .last .arcs) (Before (c .args .x) (c .loop-y .y + 1)) (Before (c .args .x + 1) 0)
+      writes = wrote-stopped (products (g .A·Alphabet .labels)) (name-of (c .args .job) (c .args .states .now) (c .args .n)) (c .args .n) (c .args .job) (c .args .states .now) (c .args .arcs .now) (c .loop-y .arcs) (c .emit-pair .last .arcs) (Before (c .args .x) (c .loop-y .y + 1)) (Before (c .args .x + 1) 0)
           (c .in-Break-written .field-0 .0) (c .from-residual .result) (c .pre .0 .0 .ready) (c .loop-y .inv .0) (c .from-residual .ensures .1) (c .in-Break-written .ensures tt .writes);
     }
 
@@ -26,9 +28,18 @@ loop-y-again g c =
 
 pub returns : need.returns
 returns g c =
+    let a = g .A·Alphabet .labels in
     let job = c .args .job in
+    let s = c .args .states .now in
     let arcs = c .loop-y .arcs in
     let kept = c .loop-y .inv .0 in
+    let ready = ready-arcs job s (c .args .arcs .now) arcs (c .pre .0 .0 .ready) kept in
+    let x = c .args .x in
+    let y = c .loop-y .y in
     record {
-      writes = (kept, written-row (g .A·Alphabet .labels) job (c .args .states .now) (c .args .n) arcs (c .loop-y .written) (c .args .x) (c .loop-y .y) (ready-arcs job (c .args .states .now) (c .args .arcs .now) arcs (c .pre .0 .0 .ready) kept) (c .loop-y-test .left) (c .loop-y .inv .1));
+      writes = (
+        kept,
+        written-pass (products a) (name-of job s (c .args .n)) (c .args .n) job s arcs (c .loop-y .written) (Before x y) (Before (x + 1) 0) (before-row x y)
+            (λ z arrow. row-before x y z (omega (arith, arrow .1, arcs-count s arcs (job .used) (job .right) (ready .in-use) (ready .right), c .loop-y-test .left))) (c .loop-y .inv .1),
+      );
     }

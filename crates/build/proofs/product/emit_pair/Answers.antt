@@ -1,20 +1,30 @@
-use mathlib.Core.Path.{_≡_, refl, sym, ap, subst, _∙_}
-use Prim.Native.Nat.{_+_}
+use mathlib.Core.Path.{_≡_, refl, sym, subst, _∙_}
+use mathlib.Core.List.{List}
+use mathlib.Core.Logic.{inr, ⊎-elim}
+use Prim.Native.Nat.{ℕ, _+_}
 use native.Mathlib.Omega.{arith}
-use lib.ListN.{set}
 use Rattle.std.specs.shelf.Lists.{Has}
 use Rattle.std.proofs.shelf.Tests.{both-ways}
+use Rattle.alphabet.specs.Labels.{Labels}
 use Rattle.automaton.specs.declared.Arc.{Arc}
+use Rattle.automaton.specs.declared.State.{State}
+use Rattle.build.specs.declared.Operands.{Operands}
 use Rattle.automaton.specs.Nfa.{go}
 use Rattle.build.specs.Emitted.{Stands-for, name-of, Before, Written}
-use Rattle.build.specs.Pairs.{Pair, pairs, product-of}
+use Rattle.build.specs.Pairs.{Pair, pairs, products, product-of}
 use Rattle.build.specs.Tables.{Kept, arc-in}
-use Rattle.build.proofs.Emitting.{paired-has, written-pass, written-push, written-full}
+use Rattle.build.proofs.Emitting.{paired-has, written-pass, written-push, written-full, before-more, before-last, not-before}
 use Rattle.build.proofs.Exploring.{arcs-count}
 use Rattle.build.proofs.Keeping.{kept-none}
 use Rattle.build.proofs.product.emit_pair.Given as given
 use Rattle.build.proofs.product.emit_pair.Needs as need
 use Rattle.build.proofs.product.emit_pair.Needs.{In-Some}
+
+-- two arcs that give no arrow
+passed : {L : Type 0} (a : Labels L) (job : Operands) (s : List State) (n : ℕ) (arcs : List (Arc L)) (e x y : ℕ) → Written (products a) (name-of job s n) n job s arcs e (Before x y) → (product-of a job s arcs .Arrow (x, y) → ⊥) → Written (products a) (name-of job s n) n job s arcs e (Before x (y + 1))
+passed a job s n arcs e x y h not =
+    written-pass (products a) (name-of job s n) n job s arcs e (Before x y) (Before x (y + 1)) (before-more x y)
+    (λ z arrow before. ⊎-elim (λ was. was) (λ same. absurd (not (subst (λ w. product-of a job s arcs .Arrow w) (sym same) arrow))) (before-last x y z before)) h
 
 pub returns-then-not-meets : need.returns-then-not-meets
 returns-then-not-meets g c =
@@ -22,7 +32,7 @@ returns-then-not-meets g c =
     record {
       writes = (
         kept-none (c .args .job .used .arcs) (c .args .arcs .now),
-        written-pass a (c .args .job) (c .args .states .now) (c .args .n) (c .args .arcs .now) (c .args .e) (c .args .x) (c .args .y) (c .pre .0 .1) (λ arrow. both-ways _ (sym (c .if-not-meets .ensures tt .decides)) (arrow .3)),
+        passed a (c .args .job) (c .args .states .now) (c .args .n) (c .args .arcs .now) (c .args .e) (c .args .x) (c .args .y) (c .pre .0 .1) (λ arrow. both-ways _ (sym (c .if-not-meets .ensures tt .decides)) (arrow .3)),
       );
     }
 
@@ -37,7 +47,7 @@ returns-in-rest g c =
     record {
       writes = (
         kept-none (job .used .arcs) arcs,
-        written-pass a job s (c .args .n) arcs (c .args .e) (c .args .x) (c .args .y) (c .pre .0 .1) (λ arrow. c .in-rest .ensures tt .finds (subst (Has (pairs job s (c .args .n))) sides (paired-has a job s arcs (c .args .n) _ (c .pre .0 .0) (arrow .2)))),
+        passed a job s (c .args .n) arcs (c .args .e) (c .args .x) (c .args .y) (c .pre .0 .1) (λ arrow. c .in-rest .ensures tt .finds (subst (Has (pairs job s (c .args .n))) sides (paired-has a job s arcs (c .args .n) _ (c .pre .0 .0) (arrow .2)))),
       );
     }
 
@@ -75,7 +85,7 @@ returns-then-at-arc-room g c =
     record {
       writes = (
         kept-none (c .args .job .used .arcs) arcs,
-        written-full (g .A·Alphabet .labels) (c .args .job) (c .args .states .now) (c .args .n) arcs (c .args .e) (c .args .x) (c .args .y) (c .pre .0 .1) (arrow g (need.at·returns-then-at-arc-room g c .In-Some)) (omega arith),
+        written-full (products (g .A·Alphabet .labels)) (name-of (c .args .job) (c .args .states .now) (c .args .n)) (c .args .n) (c .args .job) (c .args .states .now) arcs (c .args .e) (Before (c .args .x) (c .args .y)) (Before (c .args .x) (c .args .y + 1)) (c .args .x, c .args .y) (not-before (c .args .x) (c .args .y)) (c .pre .0 .1) (arrow g (need.at·returns-then-at-arc-room g c .In-Some)) (omega arith),
       );
     }
 
@@ -99,6 +109,6 @@ returns g c =
       label-is = c .meet-label .ensures .is-meet ∙ (λ j. a .meet (c .label .ensures .reads d j) (c .label-2 .ensures .reads d j));
     } in
     record {
-      writes = subst (λ t. Kept (job .used .arcs) arcs t × Written a job s n t (e + 1) (Before (c .args .x) (c .args .y + 1))) (sym (c .put .ensures .writes))
-          (written-push a job s n arcs e (c .args .x) (c .args .y) (c .pre .0 .1) (c .pre .0 .0 .ready) b (arrow g (need.at·returns g c .In-Some)) for (omega arith));
+      writes = subst (λ t. Kept (job .used .arcs) arcs t × Written (products a) (name-of job s n) n job s t (e + 1) (Before (c .args .x) (c .args .y + 1))) (sym (c .put .ensures .writes))
+          (written-push (products a) (name-of job s n) n job s arcs e (Before (c .args .x) (c .args .y)) (Before (c .args .x) (c .args .y + 1)) (c .args .x, c .args .y) (not-before (c .args .x) (c .args .y)) (c .pre .0 .1) (arrow g (need.at·returns g c .In-Some)) (c .pre .0 .0 .ready) b for (before-more (c .args .x) (c .args .y)) (inr (refl, omega arith)) (before-last (c .args .x) (c .args .y)) (omega arith));
     }
