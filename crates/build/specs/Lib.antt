@@ -1,3 +1,4 @@
+pub mod Concats
 pub mod Emitted
 pub mod Outcome
 pub mod Pairs

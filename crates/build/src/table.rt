@@ -5,11 +5,13 @@ ghost use mathlib.Core.List.{map};
 ghost use lib.ListN.{length, getD, set};
 ghost use Rattle.std.specs.Orderings.{Decides};
 ghost use Rattle.automaton.specs.Automaton.{unmarked};
+ghost use Rattle.build.specs.Concats.{Pushed};
 ghost use Rattle.build.specs.Tables.{state-room, arc-room, part, Lies, InUse, Stands};
 use crate::ARC_ROWS;
 use crate::Place;
 use crate::Rows;
 use crate::STATE_ROWS;
+use crate::Stop;
 use automaton::Arc;
 use automaton::Marks;
 use automaton::State;
@@ -93,4 +95,17 @@ pub fn put<L: Copy>(arcs: &mut [Arc<L>], at: usize, arc: Arc<L>)
     ensures writes { λ _. ⌜ now (arcs .exit) ≡ set (now (arcs .entry)) at arc ⌝ }
 {
     arcs[at] = arc;
+}
+
+// Puts an arc behind e others, unless the table is full.
+pub fn push<L: Copy>(arcs: &mut [Arc<L>], used: usize, e: usize, arc: Arc<L>) -> Result<usize, Stop>
+    requires { ⌜ used + e ≤ arc-room (now arcs) ⌝ }
+    ensures pushes { λ r. ⌜ Pushed used (now (arcs .entry)) (now (arcs .exit)) e arc r ⌝ }
+{
+    let at = used + e;
+    if at >= arc_room(arcs) {
+        return Err(Stop::ArcsFull);
+    }
+    put(arcs, at, arc);
+    Ok(e + 1)
 }
