@@ -1,5 +1,6 @@
 pub mod Keeping
 pub mod Emitting
+pub mod Joining
 pub mod Exploring
 pub mod Finding
 pub mod Producing

@@ -1,0 +1,84 @@
+-- Writing the rows of a concatenation: what each keeps.
+use mathlib.Core.Path.{_≡_, refl, sym, ap, subst, _∙_}
+use mathlib.Core.Bool.{Bool, true, false, cond, _&&_}
+use mathlib.Core.List.{List, map}
+use mathlib.Core.Logic.{_⊎_, inl, inr, ⊎-elim}
+use Prim.Native.Nat.{ℕ, _+_, _-_, _≤_, _<_}
+use native.Mathlib.Omega.{arith}
+use lib.Dec.{ltb}
+use lib.ListN.{length, getD, set}
+use Rattle.std.specs.declared.result.Result.{Result}
+use Rattle.std.specs.declared.result.Result.the-variants.{Ok, Err}
+use Rattle.std.proofs.shelf.Lists.{getD-set-same, getD-set-other, getD-take}
+use Rattle.std.proofs.shelf.Tests.{cases-lt, cases-eq, cond-true, cond-false, lt-ltb, le-ltb}
+use Rattle.alphabet.specs.Labels.{Labels}
+use Rattle.automaton.specs.declared.Arc.{Arc}
+use Rattle.automaton.specs.declared.Marks.{Marks}
+use Rattle.automaton.specs.declared.State.{State}
+use Rattle.automaton.specs.Automaton.{Automaton}
+use Rattle.automaton.specs.Nfa.{Nfa, either}
+use Rattle.automaton.proofs.Concats.{inl-same, inr-same, inl-inr}
+use Rattle.automaton.specs.Numbers.{Numbers, MoreThan}
+use Rattle.build.specs.declared.Operands.{Operands}
+use Rattle.build.specs.declared.Place.{Place}
+use Rattle.build.specs.declared.Stop.{Stop}
+use Rattle.build.specs.declared.Stop.the-variants.{StatesFull, ArcsFull, Outside}
+use Rattle.build.specs.Concats.{Side, side-of, blank, Pushed}
+use Rattle.build.specs.Emitted.{Stands-for, Written, Wrote}
+use Rattle.build.specs.Pairs.{left-of, right-of, marks-in, Ready}
+use Rattle.build.specs.Tables.{part, arc-room, Kept}
+use Rattle.build.proofs.Emitting.{written-push, written-full}
+use Rattle.build.proofs.Keeping.{kept-none, part-kept}
+
+-- one row more is marked
+pub marked-more : (base p : ℕ) (t : List State) (f : ℕ → Marks) (r : State) → base + p < length t → r .marks ≡ f p → ((i : ℕ) → i < p → getD t (base + i) blank .marks ≡ f i) → (i : ℕ) → i < p + 1 → getD (set t (base + p) r) (base + i) blank .marks ≡ f i
+marked-more base p t f r low is before i below =
+    ⊎-elim
+    (λ same. ap (λ s. s .marks) (ap (λ j. getD (set t (base + p) r) (base + j) blank) same ∙ getD-set-same t (base + p) r blank low) ∙ is ∙ ap f (sym same))
+    (λ other. ap (λ s. s .marks) (getD-set-other t (base + p) (base + i) r blank (λ e. other (omega arith))) ∙ before i (omega arith)) (cases-eq i p)
+
+pub marks-kept : (n : ℕ) (s t : List State) (p : Place) (q : ℕ) → Kept n s t → p .first .states + p .count .states ≤ n → marks-in t p q ≡ marks-in s p q
+marks-kept n s t p q kept within = ap (λ l. getD (map (λ r. r .marks) l) q (record { initial = false; accepting = false })) (part-kept n s t (p .first .states) (p .count .states) kept within)
+
+pub kept-getD : {X : Type 0} (n : ℕ) (s t : List X) (i : ℕ) (d : X) → Kept n s t → i < n → getD t i d ≡ getD s i d
+kept-getD n s t i d kept low = sym (getD-take n t i d low) ∙ ap (λ l. getD l i d) (kept .front) ∙ getD-take n s i d low
+
+-- the two kinds of places
+pub side-left : (n i : ℕ) → i < n → side-of n i ≡ inl i
+side-left n i low = cond-true (ltb i n) (inl i) (inr (i - n)) (lt-ltb i n low)
+
+pub side-right : (n i : ℕ) → side-of n (n + i) ≡ inr i
+side-right n i = cond-false (ltb (n + i) n) (inl (n + i)) (inr (n + i - n)) (le-ltb (n + i) n (omega arith)) ∙ ap inr (omega arith)
+
+-- the sides of n and m states are numbered by places
+pub sides-number : (n m : ℕ) (P Q : ℕ → Type 0) → ((i : ℕ) → i < n → P i) → ((i : ℕ) → P i → i < n) → ((i : ℕ) → i < m → Q i) → ((i : ℕ) → Q i → i < m) → Numbers (either P Q) (n + m) (side-of n)
+sides-number n m P Q p p′ q q′ = record {
+  each = λ i low. ⊎-elim (λ left. subst (either P Q) (sym (side-left n i left)) (p i left)) (λ right. let here : n + (i - n) ≡ i = omega arith in subst (either P Q) (sym (side-right n (i - n)) ∙ ap (side-of n) here) (q (i - n) (omega arith))) (cases-lt i n);
+  every = every′;
+  once = λ i j low high e. once′ i j low high e (cases-lt i n) (cases-lt j n);
+}
+  where
+    every′ : (x : Side) → either P Q x → (i : ℕ) × (i < n + m) × (side-of n i ≡ x)
+    every′ (inl i) h = let low = p′ i h in (i, omega arith, side-left n i low)
+    every′ (inr i) h = let low = q′ i h in (n + i, omega arith, side-right n i)
+
+    at : (i : ℕ) → n ≤ i → side-of n i ≡ inr (i - n)
+    at i high = let here : n + (i - n) ≡ i = omega arith in ap (side-of n) (sym here) ∙ side-right n (i - n)
+
+    once′ : (i j : ℕ) → i < n + m → j < n + m → side-of n i ≡ side-of n j → (i < n) ⊎ (n ≤ i) → (j < n) ⊎ (n ≤ j) → i ≡ j
+    once′ i j low high e (inl a) (inl b) = inl-same (sym (side-left n i a) ∙ e ∙ side-left n j b)
+    once′ i j low high e (inl a) (inr b) = absurd (inl-inr (sym (side-left n i a) ∙ e ∙ at j b))
+    once′ i j low high e (inr a) (inl b) = absurd (inl-inr (sym (side-left n j b) ∙ sym e ∙ at i a))
+    once′ i j low high e (inr a) (inr b) = let same : i - n ≡ j - n = inr-same (sym (at i a) ∙ e ∙ at j b) in omega arith
+
+-- an arrow that was pushed
+pub wrote-push : {S X L : Type 0} (N : Automaton L → Automaton L → Nfa S X L) (name : ℕ → S) (n : ℕ) (job : Operands) (states : List State) (arcs after : List (Arc L)) (e : ℕ) (Looked Looked′ : X → Type 0) (x : X) (b : Arc L) (r : Result ℕ Stop) →
+    (Looked x → ⊥) → Written N name n job states arcs e Looked → N (left-of job states arcs) (right-of job states arcs) .Arrow x → Ready job states arcs → Stands-for (N (left-of job states arcs) (right-of job states arcs)) name n b x →
+    ((z : X) → Looked z → Looked′ z) → Looked′ x → ((z : X) → Looked′ z → Looked z ⊎ (x ≡ z)) → Pushed (job .used .arcs) arcs after e b r → Wrote N name n job states arcs after Looked′ r
+wrote-push N name n job states arcs after e Looked Looked′ x b (Ok d) new h arrow ready for more here last pushed =
+    let w = written-push N name n job states arcs e Looked Looked′ x new h arrow ready b for more here last (pushed .1) in
+    subst (λ t. Kept (job .used .arcs) arcs t × Written N name n job states t d Looked′) (sym (pushed .2)) (w .0, subst (λ k. Written N name n job states (set arcs (job .used .arcs + e) b) k Looked′) (sym (pushed .0)) (w .1))
+wrote-push N name n job states arcs after e Looked Looked′ x b (Err ArcsFull) new h arrow ready for more here last pushed =
+    (subst (Kept (job .used .arcs) arcs) (sym (pushed .1)) (kept-none (job .used .arcs) arcs), written-full N name n job states arcs e Looked Looked′ x new h arrow (pushed .0))
+wrote-push N name n job states arcs after e Looked Looked′ x b (Err StatesFull) new h arrow ready for more here last pushed = absurd pushed
+wrote-push N name n job states arcs after e Looked Looked′ x b (Err Outside) new h arrow ready for more here last pushed = absurd pushed
