@@ -15,7 +15,7 @@ use Rattle.alphabet.specs.Labels.{Labels}
 use Rattle.automaton.specs.declared.Arc.{Arc}
 use Rattle.automaton.specs.declared.Marks.{Marks}
 use Rattle.automaton.specs.declared.State.{State}
-use Rattle.automaton.specs.Automaton.{Automaton}
+use Rattle.automaton.specs.Automaton.{Automaton, initial, accepting}
 use Rattle.automaton.specs.Nfa.{Nfa, either}
 use Rattle.automaton.proofs.Concats.{inl-same, inr-same, inl-inr}
 use Rattle.automaton.specs.Numbers.{Numbers, MoreThan}
@@ -23,11 +23,12 @@ use Rattle.build.specs.declared.Operands.{Operands}
 use Rattle.build.specs.declared.Place.{Place}
 use Rattle.build.specs.declared.Stop.{Stop}
 use Rattle.build.specs.declared.Stop.the-variants.{StatesFull, ArcsFull, Outside}
-use Rattle.build.specs.Concats.{Side, side-of, blank, Pushed}
+use Rattle.build.specs.Concats.{Side, Link, side-of, blank, concats, concat-of, Copied, Pushed}
 use Rattle.build.specs.Emitted.{Stands-for, Written, Wrote}
 use Rattle.build.specs.Pairs.{left-of, right-of, marks-in, Ready}
-use Rattle.build.specs.Tables.{part, arc-room, Kept}
-use Rattle.build.proofs.Emitting.{written-push, written-full}
+use Rattle.build.specs.Tables.{arc-room, arc-in, Kept}
+use Rattle.build.proofs.Emitting.{written-push, written-full, before-more, before-last, before-row, before-none, not-before}
+use Rattle.build.proofs.Exploring.{arc-inside, arcs-count, states-count}
 use Rattle.build.proofs.Keeping.{kept-none, part-kept}
 
 -- one row more is marked
@@ -82,3 +83,113 @@ wrote-push N name n job states arcs after e Looked Looked′ x b (Err ArcsFull) 
     (subst (Kept (job .used .arcs) arcs) (sym (pushed .1)) (kept-none (job .used .arcs) arcs), written-full N name n job states arcs e Looked Looked′ x new h arrow (pushed .0))
 wrote-push N name n job states arcs after e Looked Looked′ x b (Err StatesFull) new h arrow ready for more here last pushed = absurd pushed
 wrote-push N name n job states arcs after e Looked Looked′ x b (Err Outside) new h arrow ready for more here last pushed = absurd pushed
+
+module _ {L : Type 0} (a : Labels L) (job : Operands) (states : List State) (arcs : List (Arc L)) (ready : Ready job states arcs) where
+  abbrev n₁ : ℕ
+  n₁ = job .left .count .states
+
+  abbrev n₂ : ℕ
+  n₂ = job .right .count .states
+
+  pub stands-first : (k : ℕ) (b : Arc L) → k < job .left .count .arcs → b .from ≡ arc-in a arcs (job .left) k .from → b .label ≡ arc-in a arcs (job .left) k .label → b .to ≡ arc-in a arcs (job .left) k .to → Stands-for (concat-of a job states arcs) (side-of n₁) (n₁ + n₂) b (inl k)
+  stands-first k b low from lab to =
+      let ends = arc-inside a states arcs (job .used) (job .left) (ready .in-use) (ready .left) k low in
+      record {
+        from-state = omega (arith, ends .0);
+        to-state = omega (arith, ends .1);
+        from-is = ap (side-of n₁) from ∙ side-left n₁ _ (ends .0);
+        to-is = ap (side-of n₁) to ∙ side-left n₁ _ (ends .1);
+        label-is = lab;
+      }
+
+  pub stands-second : (k : ℕ) (b : Arc L) → k < job .right .count .arcs → b .from ≡ n₁ + arc-in a arcs (job .right) k .from → b .label ≡ arc-in a arcs (job .right) k .label → b .to ≡ n₁ + arc-in a arcs (job .right) k .to → Stands-for (concat-of a job states arcs) (side-of n₁) (n₁ + n₂) b (inr (inl k))
+  stands-second k b low from lab to =
+      let ends = arc-inside a states arcs (job .used) (job .right) (ready .in-use) (ready .right) k low in
+      record {
+        from-state = omega (arith, ends .0);
+        to-state = omega (arith, ends .1);
+        from-is = ap (side-of n₁) from ∙ side-right n₁ _;
+        to-is = ap (side-of n₁) to ∙ side-right n₁ _;
+        label-is = lab;
+      }
+
+  pub stands-led : (x q : ℕ) (b : Arc L) → x < job .left .count .arcs → q < n₂ → b .from ≡ arc-in a arcs (job .left) x .from → b .label ≡ arc-in a arcs (job .left) x .label → b .to ≡ n₁ + q → Stands-for (concat-of a job states arcs) (side-of n₁) (n₁ + n₂) b (inr (inr (x, q)))
+  stands-led x q b low qlow from lab to =
+      let ends = arc-inside a states arcs (job .used) (job .left) (ready .in-use) (ready .left) x low in
+      record {
+        from-state = omega (arith, ends .0);
+        to-state = omega arith;
+        from-is = ap (side-of n₁) from ∙ side-left n₁ _ (ends .0);
+        to-is = ap (side-of n₁) to ∙ side-right n₁ q;
+        label-is = lab;
+      }
+
+pub first-none : (z : Link) → Copied 0 0 (0, 0) z → ⊥
+first-none (inl k) h = omega arith
+first-none (inr (inl k)) h = omega arith
+first-none (inr (inr p)) h = before-none p h
+
+-- what was looked at grows by one
+pub first-more : (x : ℕ) (z : Link) → Copied x 0 (0, 0) z → Copied (x + 1) 0 (0, 0) z
+first-more x (inl k) h = omega arith
+first-more x (inr (inl k)) h = h
+first-more x (inr (inr p)) h = h
+
+pub first-last : (x : ℕ) (z : Link) → Copied (x + 1) 0 (0, 0) z → Copied x 0 (0, 0) z ⊎ (inl x ≡ z)
+first-last x (inl k) h = ⊎-elim (λ same. inr (ap inl (sym same))) (λ other. inl (omega arith)) (cases-eq k x)
+first-last x (inr (inl k)) h = inl h
+first-last x (inr (inr p)) h = inl h
+
+pub second-more : (x y : ℕ) (z : Link) → Copied x y (0, 0) z → Copied x (y + 1) (0, 0) z
+second-more x y (inl k) h = h
+second-more x y (inr (inl k)) h = omega arith
+second-more x y (inr (inr p)) h = h
+
+pub second-last : (x y : ℕ) (z : Link) → Copied x (y + 1) (0, 0) z → Copied x y (0, 0) z ⊎ (inr (inl y) ≡ z)
+second-last x y (inl k) h = inl h
+second-last x y (inr (inl k)) h = ⊎-elim (λ same. inr (ap (λ i. inr (inl i)) (sym same))) (λ other. inl (omega arith)) (cases-eq k y)
+second-last x y (inr (inr p)) h = inl h
+
+pub led-more : (x y u v : ℕ) (z : Link) → Copied x y (u, v) z → Copied x y (u, v + 1) z
+led-more x y u v (inl k) h = h
+led-more x y u v (inr (inl k)) h = h
+led-more x y u v (inr (inr p)) h = before-more u v p h
+
+pub led-last : (x y u v : ℕ) (z : Link) → Copied x y (u, v + 1) z → Copied x y (u, v) z ⊎ (inr (inr (u, v)) ≡ z)
+led-last x y u v (inl k) h = inl h
+led-last x y u v (inr (inl k)) h = inl h
+led-last x y u v (inr (inr p)) h = ⊎-elim (λ was. inl was) (λ same. inr (ap (λ i. inr (inr i)) same)) (before-last u v p h)
+
+pub led-row : (x y u v : ℕ) (z : Link) → Copied x y (u, v) z → Copied x y (u + 1, 0) z
+led-row x y u v (inl k) h = h
+led-row x y u v (inr (inl k)) h = h
+led-row x y u v (inr (inr p)) h = before-row u v p h
+
+-- one link more was pushed
+module _ {L : Type 0} (a : Labels L) (job : Operands) (states : List State) (arcs after : List (Arc L)) (ready : Ready job states arcs) (e : ℕ) (b : Arc L) (r : Result ℕ Stop) (pushed : Pushed (job .used .arcs) arcs after e b r) where
+  abbrev So : (Link → Type 0) → Type 0
+  So Looked = Written (concats a) (side-of (job .left .count .states)) (job .left .count .states + job .right .count .states) job states arcs e Looked
+
+  abbrev Then : (Link → Type 0) → Type 0
+  Then Looked = Wrote (concats a) (side-of (job .left .count .states)) (job .left .count .states + job .right .count .states) job states arcs after Looked r
+
+  pub pushed-first : (k : ℕ) → k < job .left .count .arcs → b .from ≡ arc-in a arcs (job .left) k .from → b .label ≡ arc-in a arcs (job .left) k .label → b .to ≡ arc-in a arcs (job .left) k .to → So (Copied k 0 (0, 0)) → Then (Copied (k + 1) 0 (0, 0))
+  pushed-first k low from lab to h =
+      wrote-push (concats a) (side-of (job .left .count .states)) (job .left .count .states + job .right .count .states) job states arcs after e (Copied k 0 (0, 0)) (Copied (k + 1) 0 (0, 0)) (inl k) b r (λ old. omega arith) h
+      (omega (arith, arcs-count states arcs (job .used) (job .left) (ready .in-use) (ready .left))) ready (stands-first a job states arcs ready k b low from lab to) (first-more k) (omega arith) (first-last k) pushed
+
+  pub pushed-second : (k : ℕ) → k < job .right .count .arcs → b .from ≡ job .left .count .states + arc-in a arcs (job .right) k .from → b .label ≡ arc-in a arcs (job .right) k .label → b .to ≡ job .left .count .states + arc-in a arcs (job .right) k .to →
+      So (Copied (job .left .count .arcs) k (0, 0)) → Then (Copied (job .left .count .arcs) (k + 1) (0, 0))
+  pushed-second k low from lab to h =
+      let x = job .left .count .arcs in
+      wrote-push (concats a) (side-of (job .left .count .states)) (job .left .count .states + job .right .count .states) job states arcs after e (Copied x k (0, 0)) (Copied x (k + 1) (0, 0)) (inr (inl k)) b r (λ old. omega arith) h
+      (omega (arith, arcs-count states arcs (job .used) (job .right) (ready .in-use) (ready .right))) ready (stands-second a job states arcs ready k b low from lab to) (second-more x k) (omega arith) (second-last x k) pushed
+
+  pub pushed-led : (x q : ℕ) → x < job .left .count .arcs → q < job .right .count .states → accepting (left-of job states arcs) (arc-in a arcs (job .left) x .to) ≡ true → initial (right-of job states arcs) q ≡ true → b .from ≡ arc-in a arcs (job .left) x .from → b .label ≡ arc-in a arcs (job .left) x .label → b .to ≡ job .left .count .states + q →
+      So (Copied (job .left .count .arcs) (job .right .count .arcs) (x, q)) → Then (Copied (job .left .count .arcs) (job .right .count .arcs) (x, q + 1))
+  pushed-led x q low qlow enters begins from lab to h =
+      let e₁ = job .left .count .arcs in
+      let e₂ = job .right .count .arcs in
+      wrote-push (concats a) (side-of (job .left .count .states)) (job .left .count .states + job .right .count .states) job states arcs after e (Copied e₁ e₂ (x, q)) (Copied e₁ e₂ (x, q + 1)) (inr (inr (x, q))) b r (not-before x q) h
+      (omega (arith, arcs-count states arcs (job .used) (job .left) (ready .in-use) (ready .left)), enters, (omega (arith, states-count states arcs (job .used) (job .right) (ready .in-use) (ready .right)), begins)) ready (stands-led a job states arcs ready x q b low qlow from lab to)
+      (led-more e₁ e₂ x q) (inr (refl, omega arith)) (led-last e₁ e₂ x q) pushed

@@ -7,8 +7,9 @@ ghost use lib.ListN.{length, getD};
 ghost use Rattle.std.specs.Orderings.{Decides};
 ghost use Rattle.build.specs.Concats.{concats, side-of, first-marks, second-marks, Copied, blank};
 ghost use Rattle.build.specs.Emitted.{Written, Wrote};
-ghost use Rattle.build.specs.Pairs.{Ready, marks-in};
-ghost use Rattle.build.specs.Tables.{Kept};
+ghost use Rattle.automaton.specs.Automaton.{accepting};
+ghost use Rattle.build.specs.Pairs.{Ready, marks-in, left-of};
+ghost use Rattle.build.specs.Tables.{Kept, arc-in};
 use crate::Operands;
 use crate::Place;
 use crate::Stop;
@@ -72,4 +73,74 @@ fn second_states(states: &mut [State], job: Operands, nullable: bool)
             accepting: at.accepting,
         });
     }
+}
+
+// Copies the arcs of the first.
+fn first_arcs<A: Alphabet>(states: &[State], arcs: &mut [Arc<A::Label>], job: Operands) -> Result<usize, Stop>
+    requires { ⌜ Ready job (now states) (now arcs) ⌝ }
+    ensures writes { λ r. ⌜ Wrote (concats (A·Alphabet .labels)) (side-of (job .left .count .states)) (job .left .count .states + job .right .count .states) job (now (states .entry)) (now (arcs .entry)) (now (arcs .exit)) (Copied (job .left .count .arcs) 0 (0, 0)) r ⌝ }
+{
+    let mut written = 0;
+    for k in 0..job.left.count.arcs {
+        let arc = Arc {
+            from: from(arcs, job.left, k),
+            label: label(arcs, job.left, k),
+            to: to(arcs, job.left, k),
+        };
+        written = push(arcs, job.used.arcs, written, arc)?;
+    }
+    Ok(written)
+}
+
+// Copies the arcs of the second, whose states now lie behind those of the first.
+fn second_arcs<A: Alphabet>(states: &[State], arcs: &mut [Arc<A::Label>], job: Operands, e: usize) -> Result<usize, Stop>
+    requires { ⌜ Ready job (now states) (now arcs) ⌝ }
+    requires { ⌜ Written (concats (A·Alphabet .labels)) (side-of (job .left .count .states)) (job .left .count .states + job .right .count .states) job (now states) (now arcs) e (Copied (job .left .count .arcs) 0 (0, 0)) ⌝ }
+    ensures writes { λ r. ⌜ Wrote (concats (A·Alphabet .labels)) (side-of (job .left .count .states)) (job .left .count .states + job .right .count .states) job (now (states .entry)) (now (arcs .entry)) (now (arcs .exit)) (Copied (job .left .count .arcs) (job .right .count .arcs) (0, 0)) r ⌝ }
+{
+    let mut written = e;
+    for k in 0..job.right.count.arcs {
+        let arc = Arc {
+            from: job.left.count.states + from(arcs, job.right, k),
+            label: label(arcs, job.right, k),
+            to: job.left.count.states + to(arcs, job.right, k),
+        };
+        written = push(arcs, job.used.arcs, written, arc)?;
+    }
+    Ok(written)
+}
+
+// Leads the arc x of the first, which enters an accepting state, on to each initial state of the second.
+fn lead_on_from<A: Alphabet>(states: &[State], arcs: &mut [Arc<A::Label>], job: Operands, e: usize, x: usize) -> Result<usize, Stop>
+    requires { ⌜ Ready job (now states) (now arcs) ⌝ ∗ ⌜ x < job .left .count .arcs ⌝ ∗ ⌜ accepting (left-of job (now states) (now arcs)) (arc-in (A·Alphabet .labels) (now arcs) (job .left) x .to) ≡ true ⌝ }
+    requires { ⌜ Written (concats (A·Alphabet .labels)) (side-of (job .left .count .states)) (job .left .count .states + job .right .count .states) job (now states) (now arcs) e (Copied (job .left .count .arcs) (job .right .count .arcs) (x, 0)) ⌝ }
+    ensures writes { λ r. ⌜ Wrote (concats (A·Alphabet .labels)) (side-of (job .left .count .states)) (job .left .count .states + job .right .count .states) job (now (states .entry)) (now (arcs .entry)) (now (arcs .exit)) (Copied (job .left .count .arcs) (job .right .count .arcs) (x + 1, 0)) r ⌝ }
+{
+    let mut written = e;
+    for q in 0..job.right.count.states {
+        if marks(states, job.right, q).initial {
+            let arc = Arc {
+                from: from(arcs, job.left, x),
+                label: label(arcs, job.left, x),
+                to: job.left.count.states + q,
+            };
+            written = push(arcs, job.used.arcs, written, arc)?;
+        }
+    }
+    Ok(written)
+}
+
+// Leads on every arc of the first that enters an accepting state.
+fn lead_on<A: Alphabet>(states: &[State], arcs: &mut [Arc<A::Label>], job: Operands, e: usize) -> Result<usize, Stop>
+    requires { ⌜ Ready job (now states) (now arcs) ⌝ }
+    requires { ⌜ Written (concats (A·Alphabet .labels)) (side-of (job .left .count .states)) (job .left .count .states + job .right .count .states) job (now states) (now arcs) e (Copied (job .left .count .arcs) (job .right .count .arcs) (0, 0)) ⌝ }
+    ensures writes { λ r. ⌜ Wrote (concats (A·Alphabet .labels)) (side-of (job .left .count .states)) (job .left .count .states + job .right .count .states) job (now (states .entry)) (now (arcs .entry)) (now (arcs .exit)) (Copied (job .left .count .arcs) (job .right .count .arcs) (job .left .count .arcs, 0)) r ⌝ }
+{
+    let mut written = e;
+    for x in 0..job.left.count.arcs {
+        if marks(states, job.left, to(arcs, job.left, x)).accepting {
+            written = lead_on_from::<A>(states, arcs, job, written, x)?;
+        }
+    }
+    Ok(written)
 }
