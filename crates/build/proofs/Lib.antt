@@ -5,3 +5,4 @@ pub mod Finding
 pub mod Producing
 pub mod Parts
 pub mod Places
+pub mod Linking
