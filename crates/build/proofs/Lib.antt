@@ -6,3 +6,4 @@ pub mod Finding
 pub mod Producing
 pub mod Parts
 pub mod Places
+pub mod Linking
