@@ -15,9 +15,8 @@ use Rattle.alphabet.specs.Labels.{Labels}
 use Rattle.automaton.specs.declared.Arc.{Arc}
 use Rattle.automaton.specs.declared.Marks.{Marks}
 use Rattle.automaton.specs.declared.State.{State}
-use Rattle.automaton.specs.Automaton.{Automaton, initial, accepting}
+use Rattle.automaton.specs.Automaton.{Automaton, initial, accepting, arc-at}
 use Rattle.automaton.specs.Nfa.{Nfa, either}
-use Rattle.automaton.proofs.Concats.{inl-same, inr-same, inl-inr}
 use Rattle.automaton.specs.Numbers.{Numbers, MoreThan}
 use Rattle.build.specs.declared.Operands.{Operands}
 use Rattle.build.specs.declared.Place.{Place}
@@ -27,9 +26,10 @@ use Rattle.build.specs.Concats.{Side, Link, side-of, blank, concats, concat-of
 use Rattle.build.specs.Emitted.{Stands-for, Written, Wrote}
 use Rattle.build.specs.Pairs.{left-of, right-of, marks-in, Ready}
 use Rattle.build.specs.Tables.{arc-room, arc-in, Kept}
-use Rattle.build.proofs.Emitting.{written-push, written-full, before-more, before-last, before-row, before-none, not-before}
+use Rattle.build.proofs.Emitting.{written-push, written-full, before-more, before-last, before-row, before-none, not-before, row-before, written-pass, operands-arcs}
 use Rattle.build.proofs.Exploring.{arc-inside, arcs-count, states-count}
 use Rattle.build.proofs.Keeping.{kept-none, part-kept}
+use Rattle.build.proofs.Linking.{numbers-below, numbers-like, numbers-sum}
 
 -- one row more is marked
 pub marked-more : (base p : ℕ) (t : List State) (f : ℕ → Marks) (r : State) → base + p < length t → r .marks ≡ f p → ((i : ℕ) → i < p → getD t (base + i) blank .marks ≡ f i) → (i : ℕ) → i < p + 1 → getD (set t (base + p) r) (base + i) blank .marks ≡ f i
@@ -53,24 +53,7 @@ side-right n i = cond-false (ltb (n + i) n) (inl (n + i)) (inr (n + i - n)) (le-
 
 -- the sides of n and m states are numbered by places
 pub sides-number : (n m : ℕ) (P Q : ℕ → Type 0) → ((i : ℕ) → i < n → P i) → ((i : ℕ) → P i → i < n) → ((i : ℕ) → i < m → Q i) → ((i : ℕ) → Q i → i < m) → Numbers (either P Q) (n + m) (side-of n)
-sides-number n m P Q p p′ q q′ = record {
-  each = λ i low. ⊎-elim (λ left. subst (either P Q) (sym (side-left n i left)) (p i left)) (λ right. let here : n + (i - n) ≡ i = omega arith in subst (either P Q) (sym (side-right n (i - n)) ∙ ap (side-of n) here) (q (i - n) (omega arith))) (cases-lt i n);
-  every = every′;
-  once = λ i j low high e. once′ i j low high e (cases-lt i n) (cases-lt j n);
-}
-  where
-    every′ : (x : Side) → either P Q x → (i : ℕ) × (i < n + m) × (side-of n i ≡ x)
-    every′ (inl i) h = let low = p′ i h in (i, omega arith, side-left n i low)
-    every′ (inr i) h = let low = q′ i h in (n + i, omega arith, side-right n i)
-
-    at : (i : ℕ) → n ≤ i → side-of n i ≡ inr (i - n)
-    at i high = let here : n + (i - n) ≡ i = omega arith in ap (side-of n) (sym here) ∙ side-right n (i - n)
-
-    once′ : (i j : ℕ) → i < n + m → j < n + m → side-of n i ≡ side-of n j → (i < n) ⊎ (n ≤ i) → (j < n) ⊎ (n ≤ j) → i ≡ j
-    once′ i j low high e (inl a) (inl b) = inl-same (sym (side-left n i a) ∙ e ∙ side-left n j b)
-    once′ i j low high e (inl a) (inr b) = absurd (inl-inr (sym (side-left n i a) ∙ e ∙ at j b))
-    once′ i j low high e (inr a) (inl b) = absurd (inl-inr (sym (side-left n j b) ∙ sym e ∙ at i a))
-    once′ i j low high e (inr a) (inr b) = let same : i - n ≡ j - n = inr-same (sym (at i a) ∙ e ∙ at j b) in omega arith
+sides-number n m P Q p p′ q q′ = numbers-sum (numbers-like (numbers-below n) p p′) (numbers-like (numbers-below m) q q′)
 
 -- an arrow that was pushed
 pub wrote-push : {S X L : Type 0} (N : Automaton L → Automaton L → Nfa S X L) (name : ℕ → S) (n : ℕ) (job : Operands) (states : List State) (arcs after : List (Arc L)) (e : ℕ) (Looked Looked′ : X → Type 0) (x : X) (b : Arc L) (r : Result ℕ Stop) →
@@ -193,3 +176,42 @@ module _ {L : Type 0} (a : Labels L) (job : Operands) (states : List State) (arc
       wrote-push (concats a) (side-of (job .left .count .states)) (job .left .count .states + job .right .count .states) job states arcs after e (Copied e₁ e₂ (x, q)) (Copied e₁ e₂ (x, q + 1)) (inr (inr (x, q))) b r (not-before x q) h
       (omega (arith, arcs-count states arcs (job .used) (job .left) (ready .in-use) (ready .left)), enters, (omega (arith, states-count states arcs (job .used) (job .right) (ready .in-use) (ready .right)), begins)) ready (stands-led a job states arcs ready x q b low qlow from lab to)
       (led-more e₁ e₂ x q) (inr (refl, omega arith)) (led-last e₁ e₂ x q) pushed
+
+module _ {L : Type 0} (a : Labels L) (job : Operands) (states : List State) where
+  -- an arc of the first still enters an accepting state
+  pub enters-still : (arcs t : List (Arc L)) → Ready job states arcs → Kept (job .used .arcs) arcs t → (x : ℕ) → accepting (left-of job states arcs) (arc-in a arcs (job .left) x .to) ≡ true → accepting (left-of job states t) (arc-in a t (job .left) x .to) ≡ true
+  enters-still arcs t ready kept x h = operands-arcs job states arcs t ready kept (λ m k. accepting m (arc-at a m x .to) ≡ true) h
+
+  -- a state of the second that is not initial
+  pub led-pass : (arcs : List (Arc L)) (e e₁ e₂ x q : ℕ) → (concat-of a job states arcs .Arrow (inr (inr (x, q))) → ⊥) → Written (concats a) (side-of (job .left .count .states)) (job .left .count .states + job .right .count .states) job states arcs e (Copied e₁ e₂ (x, q)) →
+      Written (concats a) (side-of (job .left .count .states)) (job .left .count .states + job .right .count .states) job states arcs e (Copied e₁ e₂ (x, q + 1))
+  led-pass arcs e e₁ e₂ x q not h =
+      written-pass (concats a) (side-of (job .left .count .states)) (job .left .count .states + job .right .count .states) job states arcs e (Copied e₁ e₂ (x, q)) (Copied e₁ e₂ (x, q + 1)) (led-more e₁ e₂ x q)
+      (λ z arrow before. ⊎-elim (λ was. was) (λ same. absurd (not (subst (λ w. concat-of a job states arcs .Arrow w) (sym same) arrow))) (led-last e₁ e₂ x q z before)) h
+
+  -- past the last state of the second the next arc of the first is taken
+  pub led-end : (arcs : List (Arc L)) (ready : Ready job states arcs) (e x q : ℕ) → job .right .count .states ≤ q → Written (concats a) (side-of (job .left .count .states)) (job .left .count .states + job .right .count .states) job states arcs e (Copied (job .left .count .arcs) (job .right .count .arcs) (x, q)) →
+      Written (concats a) (side-of (job .left .count .states)) (job .left .count .states + job .right .count .states) job states arcs e (Copied (job .left .count .arcs) (job .right .count .arcs) (x + 1, 0))
+  led-end arcs ready e x q all h =
+      let e₁ = job .left .count .arcs in
+      let e₂ = job .right .count .arcs in
+      written-pass (concats a) (side-of (job .left .count .states)) (job .left .count .states + job .right .count .states) job states arcs e (Copied e₁ e₂ (x, q)) (Copied e₁ e₂ (x + 1, 0)) (led-row e₁ e₂ x q) back h
+    where
+      back : (z : Link) → concat-of a job states arcs .Arrow z → Copied (job .left .count .arcs) (job .right .count .arcs) (x + 1, 0) z → Copied (job .left .count .arcs) (job .right .count .arcs) (x, q) z
+      back (inl k) arrow h = h
+      back (inr (inl k)) arrow h = h
+      back (inr (inr p)) arrow h = row-before x q p (omega (arith, arrow .2 .0, states-count states arcs (job .used) (job .right) (ready .in-use) (ready .right))) h
+
+  -- an arc of the first that enters no accepting state
+  pub led-skip : (arcs : List (Arc L)) (e x : ℕ) → (accepting (left-of job states arcs) (arc-in a arcs (job .left) x .to) ≡ true → ⊥) → Written (concats a) (side-of (job .left .count .states)) (job .left .count .states + job .right .count .states) job states arcs e (Copied (job .left .count .arcs) (job .right .count .arcs) (x, 0)) →
+      Written (concats a) (side-of (job .left .count .states)) (job .left .count .states + job .right .count .states) job states arcs e (Copied (job .left .count .arcs) (job .right .count .arcs) (x + 1, 0))
+  led-skip arcs e x not h =
+      let e₁ = job .left .count .arcs in
+      let e₂ = job .right .count .arcs in
+      written-pass (concats a) (side-of (job .left .count .states)) (job .left .count .states + job .right .count .states) job states arcs e (Copied e₁ e₂ (x, 0)) (Copied e₁ e₂ (x + 1, 0)) (led-row e₁ e₂ x 0) back h
+    where
+      back : (z : Link) → concat-of a job states arcs .Arrow z → Copied (job .left .count .arcs) (job .right .count .arcs) (x + 1, 0) z → Copied (job .left .count .arcs) (job .right .count .arcs) (x, 0) z
+      back (inl k) arrow h = h
+      back (inr (inl k)) arrow h = h
+      back (inr (inr p)) arrow (inl low) = ⊎-elim (λ same. absurd (not (subst (λ i. accepting (left-of job states arcs) (arc-in a arcs (job .left) i .to) ≡ true) same (arrow .1)))) (λ other. inl (omega arith)) (cases-eq (p .0) x)
+      back (inr (inr p)) arrow (inr here) = absurd (omega (arith, here .1))

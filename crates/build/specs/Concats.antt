@@ -5,7 +5,7 @@ use mathlib.Core.List.{List, _++_}
 use mathlib.Core.Logic.{_⊎_, inl, inr}
 use Prim.Native.Nat.{ℕ, _+_, _-_, _*_, _≤_, _<_}
 use lib.Dec.{ltb}
-use lib.ListN.{set}
+use lib.ListN.{length, set}
 use Rattle.std.specs.shelf.Lists.{countBy}
 use Rattle.std.specs.declared.result.Result.{Result}
 use Rattle.std.specs.declared.result.Result.the-variants.{Ok, Err}
@@ -16,6 +16,7 @@ use Rattle.automaton.specs.declared.State.{State}
 use Rattle.automaton.specs.Automaton.{Automaton, Accepts, Word, accepting, unmarked}
 use Rattle.automaton.specs.Nfa.{Nfa, concat, rows}
 use Rattle.build.specs.declared.Operands.{Operands}
+use Rattle.build.specs.declared.Rows.{Rows}
 use Rattle.build.specs.declared.Stop.{Stop}
 use Rattle.build.specs.declared.Stop.the-variants.{StatesFull, ArcsFull, Outside}
 use Rattle.build.specs.Emitted.{Before}
@@ -46,6 +47,11 @@ entering m = countBy (λ b. accepting m (b .to)) (m .arcs)
 
 abbrev pub initials : {L : Type 0} → Automaton L → ℕ
 initials m = countBy (λ s. s .initial) (m .states)
+
+-- both, and one arc more for each arc into an accepting state and each initial state
+pub record ConcatSizes {L : Type 0} (m k : Automaton L) (count : Rows) : Type 0 where
+  pub states : count .states ≡ length (m .states) + length (k .states)
+  pub arcs : count .arcs ≡ length (m .arcs) + length (k .arcs) + entering m * initials k
 
 -- the state at a place, where the first has n states
 abbrev pub side-of : ℕ → ℕ → Side

@@ -5,18 +5,23 @@ ghost use mathlib.Core.Path.{_≡_};
 ghost use mathlib.Core.Bool.{true};
 ghost use lib.ListN.{length, getD};
 ghost use Rattle.std.specs.Orderings.{Decides};
-ghost use Rattle.build.specs.Concats.{concats, side-of, first-marks, second-marks, Copied, blank};
+ghost use Rattle.build.specs.Concats.{concats, concat-of, InTurn, ConcatSizes, side-of, first-marks, second-marks, Copied, blank};
 ghost use Rattle.build.specs.Emitted.{Written, Wrote};
-ghost use Rattle.automaton.specs.Automaton.{accepting};
-ghost use Rattle.build.specs.Pairs.{Ready, marks-in, left-of};
-ghost use Rattle.build.specs.Tables.{Kept, arc-in};
+ghost use mathlib.Core.Logic.{_↔_};
+ghost use Rattle.automaton.specs.Automaton.{Accepts, Word, accepting};
+ghost use Rattle.build.specs.Outcome.{Outcome, Answer, Meant};
+ghost use Rattle.build.specs.Pairs.{Ready, marks-in, left-of, right-of};
+ghost use Rattle.build.specs.Tables.{Kept, arc-in, at};
 use crate::Operands;
 use crate::Place;
+use crate::Rows;
 use crate::Stop;
 use crate::table::from;
 use crate::table::label;
 use crate::table::marks;
 use crate::table::push;
+use crate::table::ready;
+use crate::table::state_room;
 use crate::table::to;
 use alphabet::Alphabet;
 use automaton::Arc;
@@ -143,4 +148,53 @@ fn lead_on<A: Alphabet>(states: &[State], arcs: &mut [Arc<A::Label>], job: Opera
         }
     }
     Ok(written)
+}
+
+// Writes the arcs of both, and those that lead on.
+fn all_arcs<A: Alphabet>(states: &[State], arcs: &mut [Arc<A::Label>], job: Operands) -> Result<usize, Stop>
+    requires { ⌜ Ready job (now states) (now arcs) ⌝ }
+    ensures writes { λ r. ⌜ Wrote (concats (A·Alphabet .labels)) (side-of (job .left .count .states)) (job .left .count .states + job .right .count .states) job (now (states .entry)) (now (arcs .entry)) (now (arcs .exit)) (Copied (job .left .count .arcs) (job .right .count .arcs) (job .left .count .arcs, 0)) r ⌝ }
+{
+    let first = first_arcs::<A>(states, arcs, job)?;
+    let both = second_arcs::<A>(states, arcs, job, first)?;
+    lead_on::<A>(states, arcs, job, both)
+}
+
+// Builds both parts behind the rows in use.
+fn build<A: Alphabet>(states: &mut [State], arcs: &mut [Arc<A::Label>], job: Operands) -> Result<Place, Stop>
+    requires { ⌜ Ready job (now states) (now arcs) ⌝ }
+    ensures builds { λ r. ⌜ Outcome (A·Alphabet .labels) (concat-of (A·Alphabet .labels) job (now (states .entry)) (now (arcs .entry))) (job .used) (now (states .exit)) (now (arcs .exit)) r ⌝ }
+    ensures keeps_states { λ _. ⌜ Kept (job .used .states) (now (states .entry)) (now (states .exit)) ⌝ }
+    ensures keeps_arcs { λ _. ⌜ Kept (job .used .arcs) (now (arcs .entry)) (now (arcs .exit)) ⌝ }
+{
+    let n = job.left.count.states + job.right.count.states;
+    if n > state_room(states) - job.used.states {
+        return Err(Stop::StatesFull);
+    }
+    let empty = nullable(states, job.left);
+    first_states(states, job);
+    second_states(states, job, empty);
+    let e = all_arcs::<A>(states, arcs, job)?;
+    let count = Rows { states: n, arcs: e };
+    Ok(Place { first: job.used, count })
+}
+
+// The concatenation of the two operands, built behind the rows in use.
+pub fn concat<A: Alphabet>(states: &mut [State], arcs: &mut [Arc<A::Label>], job: Operands) -> Result<Place, Stop>
+    ensures answers {
+        λ r. ⌜ Answer (Ready job (now (states .entry)) (now (arcs .entry))) (A·Alphabet .labels) (concat-of (A·Alphabet .labels) job (now (states .entry)) (now (arcs .entry)))
+          (job .used) (now (states .exit)) (now (arcs .exit)) r ⌝
+    }
+    ensures accepts_in_turn {
+        λ r. ⌜ Meant r (λ p. (w : Word) → Accepts (A·Alphabet .labels .admits) (at (now (states .exit)) (now (arcs .exit)) p) w
+          ↔ InTurn (A·Alphabet .labels .admits) (left-of job (now (states .entry)) (now (arcs .entry))) (right-of job (now (states .entry)) (now (arcs .entry))) w) ⌝
+    }
+    ensures sizes { λ r. ⌜ Meant r (λ p. ConcatSizes (left-of job (now (states .entry)) (now (arcs .entry))) (right-of job (now (states .entry)) (now (arcs .entry))) (p .count)) ⌝ }
+    ensures keeps_states { λ _. ⌜ Kept (job .used .states) (now (states .entry)) (now (states .exit)) ⌝ }
+    ensures keeps_arcs { λ _. ⌜ Kept (job .used .arcs) (now (arcs .entry)) (now (arcs .exit)) ⌝ }
+{
+    if !ready(states, arcs, job) {
+        return Err(Stop::Outside);
+    }
+    build::<A>(states, arcs, job)
 }

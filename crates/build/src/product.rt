@@ -1,7 +1,6 @@
 // The product of two automata: reachable pairs of states, and the pairs of arcs that leave them and whose labels meet.
 ghost use Prim.Native.Nat.{_+_, _<_};
 ghost use mathlib.Core.Logic.{_↔_};
-ghost use Rattle.std.specs.Orderings.{Decides};
 ghost use Rattle.automaton.specs.Automaton.{Accepts, Word};
 ghost use Rattle.build.specs.Emitted.{name-of, Paired, Before, Written, Wrote};
 ghost use Rattle.build.specs.Outcome.{Outcome, Answer, Meant};
@@ -16,10 +15,9 @@ use crate::pairs::find;
 use crate::pairs::meets;
 use crate::table::arc_room;
 use crate::table::from;
-use crate::table::in_use;
 use crate::table::label;
 use crate::table::put;
-use crate::table::stands;
+use crate::table::ready;
 use crate::table::to;
 use alphabet::Alphabet;
 use automaton::Arc;
@@ -112,14 +110,6 @@ fn emit<A: Alphabet>(
         written = emit_arc::<A>(states, arcs, job, n, written, x)?;
     }
     Ok(written)
-}
-
-fn ready<L: Copy>(states: &[State], arcs: &[Arc<L>], job: Operands) -> bool
-    ensures decides { λ r. ⌜ Decides r (Ready job (now (states .entry)) (now (arcs .entry))) ⌝ }
-{
-    in_use(states, arcs, job.used)
-        && stands(states, arcs, job.used, job.left)
-        && stands(states, arcs, job.used, job.right)
 }
 
 // Builds both parts behind the rows in use.

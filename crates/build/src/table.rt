@@ -6,8 +6,10 @@ ghost use lib.ListN.{length, getD, set};
 ghost use Rattle.std.specs.Orderings.{Decides};
 ghost use Rattle.automaton.specs.Automaton.{unmarked};
 ghost use Rattle.build.specs.Concats.{Pushed};
+ghost use Rattle.build.specs.Pairs.{Ready};
 ghost use Rattle.build.specs.Tables.{state-room, arc-room, part, Lies, InUse, Stands};
 use crate::ARC_ROWS;
+use crate::Operands;
 use crate::Place;
 use crate::Rows;
 use crate::STATE_ROWS;
@@ -108,4 +110,13 @@ pub fn push<L: Copy>(arcs: &mut [Arc<L>], used: usize, e: usize, arc: Arc<L>) ->
     }
     put(arcs, at, arc);
     Ok(e + 1)
+}
+
+// Whether the rows in use lie in the tables, and both operands stand among them.
+pub fn ready<L: Copy>(states: &[State], arcs: &[Arc<L>], job: Operands) -> bool
+    ensures decides { λ r. ⌜ Decides r (Ready job (now (states .entry)) (now (arcs .entry))) ⌝ }
+{
+    in_use(states, arcs, job.used)
+        && stands(states, arcs, job.used, job.left)
+        && stands(states, arcs, job.used, job.right)
 }

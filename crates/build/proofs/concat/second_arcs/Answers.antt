@@ -1,5 +1,6 @@
 use mathlib.Core.Path.{_≡_, refl, sym, ap, subst, subst₂, _∙_}
-use Prim.Native.Nat.{ℕ, _+_}
+use Prim.Native.Nat.{ℕ, _+_, _<_}
+use borrow.Author.Needs.{needs}
 use native.Mathlib.Omega.{arith}
 use Rattle.std.specs.declared.result.Result.the-variants.{Ok, Err}
 use Rattle.automaton.specs.declared.Arc.{Arc}
@@ -8,6 +9,7 @@ use Rattle.build.specs.Emitted.{Written, Wrote}
 use Rattle.build.specs.Tables.{arc-in, Kept}
 use Rattle.build.proofs.Emitting.{ready-arcs, written-none, written-pass, wrote-stopped}
 use Rattle.build.proofs.Joining.{pushed-first, pushed-second, pushed-led, led-row, led-last, led-more, first-none}
+use Rattle.build.proofs.Exploring.{arc-inside}
 use Rattle.build.proofs.Keeping.{kept-none, kept-more}
 use Rattle.build.proofs.concat.second_arcs.Given as given
 use Rattle.build.proofs.concat.second_arcs.Needs as need
@@ -51,7 +53,21 @@ returns g c =
     record { writes = (c .loop-k .inv .0, subst (λ k. Written (concats (g .A·Alphabet .labels)) (side-of (job .left .count .states)) (job .left .count .states + job .right .count .states) job (c .args .states .now) (c .loop-k .arcs) (c .loop-k .written) (Copied (job .left .count .arcs) k (0, 0))) all (c .loop-k .inv .1)) }
 
 pub add-arc : need.add-arc
-add-arc g c = ?
+add-arc g c =
+    let job = c .args .job in
+    let a = g .A·Alphabet .labels in
+    let t = c .loop-k .arcs in
+    let ready = ready-arcs job (c .args .states .now) (c .args .arcs .now) t (c .pre .0) (c .loop-k .inv .0) in
+    let ends = arc-inside a (c .args .states .now) t (job .used) (job .right) (ready .in-use) (ready .right) (c .loop-k .k) (c .loop-k-test .taken) in
+    let low : job .left .count .states + c .from .result < 200000 = omega (arith, ends .0, c .from .ensures .reads (blank g), ready .left .lies .states, ready .right .lies .states, ready .in-use .states-fit) in
+    search needs
 
 pub add-arc-in-loop-k : need.add-arc-in-loop-k
-add-arc-in-loop-k g c = ?
+add-arc-in-loop-k g c =
+    let job = c .args .job in
+    let a = g .A·Alphabet .labels in
+    let t = c .loop-k .arcs in
+    let ready = ready-arcs job (c .args .states .now) (c .args .arcs .now) t (c .pre .0) (c .loop-k .inv .0) in
+    let ends = arc-inside a (c .args .states .now) t (job .used) (job .right) (ready .in-use) (ready .right) (c .loop-k .k) (c .loop-k-test .taken) in
+    let low : job .left .count .states + c .to .result < 200000 = omega (arith, ends .1, c .to .ensures .reads (blank g), ready .left .lies .states, ready .right .lies .states, ready .in-use .states-fit) in
+    search needs
