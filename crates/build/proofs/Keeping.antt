@@ -19,6 +19,9 @@ module _ {X : Type 0} where
   pub kept-more : (n : ℕ) (xs ys zs : List X) → Kept n xs ys → Kept n ys zs → Kept n xs zs
   kept-more n xs ys zs h k = record { long = k .long ∙ h .long; front = k .front ∙ h .front }
 
+  pub kept-less : (n m : ℕ) (xs ys : List X) → m ≤ n → Kept n xs ys → Kept m xs ys
+  kept-less n m xs ys low h = record { long = h .long; front = sym (take-take m n ys low) ∙ ap (take m) (h .front) ∙ take-take m n xs low }
+
   pub kept-set : (n i : ℕ) (xs : List X) (x : X) → n ≤ i → Kept n xs (set xs i x)
   kept-set n i xs x low = record { long = length-set xs i x; front = take-set-le n xs i x low }
 

@@ -1,4 +1,5 @@
 pub mod Keeping
+pub mod Concatenating
 pub mod Emitting
 pub mod Joining
 pub mod Exploring

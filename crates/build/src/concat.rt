@@ -60,7 +60,10 @@ fn first_states(states: &mut [State], job: Operands)
 {
     for p in 0..job.left.count.states {
         let initial = marks(states, job.left, p).initial;
-        states[job.used.states + p] = row(Marks { initial, accepting: false });
+        states[job.used.states + p] = row(Marks {
+            initial,
+            accepting: false,
+        });
     }
 }
 
@@ -81,7 +84,11 @@ fn second_states(states: &mut [State], job: Operands, nullable: bool)
 }
 
 // Copies the arcs of the first.
-fn first_arcs<A: Alphabet>(states: &[State], arcs: &mut [Arc<A::Label>], job: Operands) -> Result<usize, Stop>
+fn first_arcs<A: Alphabet>(
+    states: &[State],
+    arcs: &mut [Arc<A::Label>],
+    job: Operands,
+) -> Result<usize, Stop>
     requires { ⌜ Ready job (now states) (now arcs) ⌝ }
     ensures writes { λ r. ⌜ Wrote (concats (A·Alphabet .labels)) (side-of (job .left .count .states)) (job .left .count .states + job .right .count .states) job (now (states .entry)) (now (arcs .entry)) (now (arcs .exit)) (Copied (job .left .count .arcs) 0 (0, 0)) r ⌝ }
 {
@@ -98,7 +105,12 @@ fn first_arcs<A: Alphabet>(states: &[State], arcs: &mut [Arc<A::Label>], job: Op
 }
 
 // Copies the arcs of the second, whose states now lie behind those of the first.
-fn second_arcs<A: Alphabet>(states: &[State], arcs: &mut [Arc<A::Label>], job: Operands, e: usize) -> Result<usize, Stop>
+fn second_arcs<A: Alphabet>(
+    states: &[State],
+    arcs: &mut [Arc<A::Label>],
+    job: Operands,
+    e: usize,
+) -> Result<usize, Stop>
     requires { ⌜ Ready job (now states) (now arcs) ⌝ }
     requires { ⌜ Written (concats (A·Alphabet .labels)) (side-of (job .left .count .states)) (job .left .count .states + job .right .count .states) job (now states) (now arcs) e (Copied (job .left .count .arcs) 0 (0, 0)) ⌝ }
     ensures writes { λ r. ⌜ Wrote (concats (A·Alphabet .labels)) (side-of (job .left .count .states)) (job .left .count .states + job .right .count .states) job (now (states .entry)) (now (arcs .entry)) (now (arcs .exit)) (Copied (job .left .count .arcs) (job .right .count .arcs) (0, 0)) r ⌝ }
@@ -116,7 +128,13 @@ fn second_arcs<A: Alphabet>(states: &[State], arcs: &mut [Arc<A::Label>], job: O
 }
 
 // Leads the arc x of the first, which enters an accepting state, on to each initial state of the second.
-fn lead_on_from<A: Alphabet>(states: &[State], arcs: &mut [Arc<A::Label>], job: Operands, e: usize, x: usize) -> Result<usize, Stop>
+fn lead_on_from<A: Alphabet>(
+    states: &[State],
+    arcs: &mut [Arc<A::Label>],
+    job: Operands,
+    e: usize,
+    x: usize,
+) -> Result<usize, Stop>
     requires { ⌜ Ready job (now states) (now arcs) ⌝ ∗ ⌜ x < job .left .count .arcs ⌝ ∗ ⌜ accepting (left-of job (now states) (now arcs)) (arc-in (A·Alphabet .labels) (now arcs) (job .left) x .to) ≡ true ⌝ }
     requires { ⌜ Written (concats (A·Alphabet .labels)) (side-of (job .left .count .states)) (job .left .count .states + job .right .count .states) job (now states) (now arcs) e (Copied (job .left .count .arcs) (job .right .count .arcs) (x, 0)) ⌝ }
     ensures writes { λ r. ⌜ Wrote (concats (A·Alphabet .labels)) (side-of (job .left .count .states)) (job .left .count .states + job .right .count .states) job (now (states .entry)) (now (arcs .entry)) (now (arcs .exit)) (Copied (job .left .count .arcs) (job .right .count .arcs) (x + 1, 0)) r ⌝ }
@@ -136,7 +154,12 @@ fn lead_on_from<A: Alphabet>(states: &[State], arcs: &mut [Arc<A::Label>], job: 
 }
 
 // Leads on every arc of the first that enters an accepting state.
-fn lead_on<A: Alphabet>(states: &[State], arcs: &mut [Arc<A::Label>], job: Operands, e: usize) -> Result<usize, Stop>
+fn lead_on<A: Alphabet>(
+    states: &[State],
+    arcs: &mut [Arc<A::Label>],
+    job: Operands,
+    e: usize,
+) -> Result<usize, Stop>
     requires { ⌜ Ready job (now states) (now arcs) ⌝ }
     requires { ⌜ Written (concats (A·Alphabet .labels)) (side-of (job .left .count .states)) (job .left .count .states + job .right .count .states) job (now states) (now arcs) e (Copied (job .left .count .arcs) (job .right .count .arcs) (0, 0)) ⌝ }
     ensures writes { λ r. ⌜ Wrote (concats (A·Alphabet .labels)) (side-of (job .left .count .states)) (job .left .count .states + job .right .count .states) job (now (states .entry)) (now (arcs .entry)) (now (arcs .exit)) (Copied (job .left .count .arcs) (job .right .count .arcs) (job .left .count .arcs, 0)) r ⌝ }
@@ -151,7 +174,11 @@ fn lead_on<A: Alphabet>(states: &[State], arcs: &mut [Arc<A::Label>], job: Opera
 }
 
 // Writes the arcs of both, and those that lead on.
-fn all_arcs<A: Alphabet>(states: &[State], arcs: &mut [Arc<A::Label>], job: Operands) -> Result<usize, Stop>
+fn all_arcs<A: Alphabet>(
+    states: &[State],
+    arcs: &mut [Arc<A::Label>],
+    job: Operands,
+) -> Result<usize, Stop>
     requires { ⌜ Ready job (now states) (now arcs) ⌝ }
     ensures writes { λ r. ⌜ Wrote (concats (A·Alphabet .labels)) (side-of (job .left .count .states)) (job .left .count .states + job .right .count .states) job (now (states .entry)) (now (arcs .entry)) (now (arcs .exit)) (Copied (job .left .count .arcs) (job .right .count .arcs) (job .left .count .arcs, 0)) r ⌝ }
 {
@@ -161,7 +188,11 @@ fn all_arcs<A: Alphabet>(states: &[State], arcs: &mut [Arc<A::Label>], job: Oper
 }
 
 // Builds both parts behind the rows in use.
-fn build<A: Alphabet>(states: &mut [State], arcs: &mut [Arc<A::Label>], job: Operands) -> Result<Place, Stop>
+fn build<A: Alphabet>(
+    states: &mut [State],
+    arcs: &mut [Arc<A::Label>],
+    job: Operands,
+) -> Result<Place, Stop>
     requires { ⌜ Ready job (now states) (now arcs) ⌝ }
     ensures builds { λ r. ⌜ Outcome (A·Alphabet .labels) (concat-of (A·Alphabet .labels) job (now (states .entry)) (now (arcs .entry))) (job .used) (now (states .exit)) (now (arcs .exit)) r ⌝ }
     ensures keeps_states { λ _. ⌜ Kept (job .used .states) (now (states .entry)) (now (states .exit)) ⌝ }
@@ -176,19 +207,22 @@ fn build<A: Alphabet>(states: &mut [State], arcs: &mut [Arc<A::Label>], job: Ope
     second_states(states, job, empty);
     let e = all_arcs::<A>(states, arcs, job)?;
     let count = Rows { states: n, arcs: e };
-    Ok(Place { first: job.used, count })
+    Ok(Place {
+        first: job.used,
+        count,
+    })
 }
 
 // The concatenation of the two operands, built behind the rows in use.
-pub fn concat<A: Alphabet>(states: &mut [State], arcs: &mut [Arc<A::Label>], job: Operands) -> Result<Place, Stop>
-    ensures answers {
-        λ r. ⌜ Answer (Ready job (now (states .entry)) (now (arcs .entry))) (A·Alphabet .labels) (concat-of (A·Alphabet .labels) job (now (states .entry)) (now (arcs .entry)))
-          (job .used) (now (states .exit)) (now (arcs .exit)) r ⌝
-    }
-    ensures accepts_in_turn {
-        λ r. ⌜ Meant r (λ p. (w : Word) → Accepts (A·Alphabet .labels .admits) (at (now (states .exit)) (now (arcs .exit)) p) w
-          ↔ InTurn (A·Alphabet .labels .admits) (left-of job (now (states .entry)) (now (arcs .entry))) (right-of job (now (states .entry)) (now (arcs .entry))) w) ⌝
-    }
+pub fn concat<A: Alphabet>(
+    states: &mut [State],
+    arcs: &mut [Arc<A::Label>],
+    job: Operands,
+) -> Result<Place, Stop>
+    ensures answers { λ r. ⌜ Answer (Ready job (now (states .entry)) (now (arcs .entry))) (A·Alphabet .labels) (concat-of (A·Alphabet .labels) job (now (states .entry)) (now (arcs .entry)))
+        (job .used) (now (states .exit)) (now (arcs .exit)) r ⌝ }
+    ensures accepts_in_turn { λ r. ⌜ Meant r (λ p. (w : Word) → Accepts (A·Alphabet .labels .admits) (at (now (states .exit)) (now (arcs .exit)) p) w
+        ↔ InTurn (A·Alphabet .labels .admits) (left-of job (now (states .entry)) (now (arcs .entry))) (right-of job (now (states .entry)) (now (arcs .entry))) w) ⌝ }
     ensures sizes { λ r. ⌜ Meant r (λ p. ConcatSizes (left-of job (now (states .entry)) (now (arcs .entry))) (right-of job (now (states .entry)) (now (arcs .entry))) (p .count)) ⌝ }
     ensures keeps_states { λ _. ⌜ Kept (job .used .states) (now (states .entry)) (now (states .exit)) ⌝ }
     ensures keeps_arcs { λ _. ⌜ Kept (job .used .arcs) (now (arcs .entry)) (now (arcs .exit)) ⌝ }

@@ -30,7 +30,7 @@ returns-in-Break-written g c =
     let stop = pushed-first a job s t (c .push .last .arcs) ready (c .loop-k .written) _ (Err (c .in-Break-written .field-0 .0)) (c .in-Break-written .ensures tt .pushes) (c .loop-k .k) (c .loop-k-test .taken) (c .from .ensures .reads (blank g)) (c .label .ensures .reads (blank g)) (c .to .ensures .reads (blank g)) (c .loop-k .inv .1) in
     record {
       writes = wrote-stopped (concats a) (side-of (job .left .count .states)) (job .left .count .states + job .right .count .states) job s (c .args .arcs .now) t (c .push .last .arcs) (Copied (c .loop-k .k + 1) 0 (0, 0)) (Copied (job .left .count .arcs) 0 (0, 0))
-        (c .in-Break-written .field-0 .0) (c .from-residual .result) (c .pre) kept (c .from-residual .ensures .1) stop;
+          (c .in-Break-written .field-0 .0) (c .from-residual .result) (c .pre) kept (c .from-residual .ensures .1) stop;
     }
 
 pub loop-k-again : need.loop-k-again

@@ -13,8 +13,7 @@ loop-p-again c =
     let t = c .loop-p .states in
     let u = job .used .states in
     let p = c .loop-p .p in
-    let kept = c .loop-p .inv .0 in
-    (
+    let kept = c .loop-p .inv .0 in (
       kept-more u s t _ kept (kept-set u _ t (c .row .result) (omega arith)),
       marked-more u p t (λ i. first-marks (marks-in s (job .left) i)) (c .row .result) (omega (arith, c .pre .1, kept .long)) (ap (λ r. r .marks) (c .row .ensures .marked) ∙ ap first-marks (c .marks-initial .ensures .reads ∙ marks-kept u s t (job .left) p kept (c .pre .0))) (c .loop-p .inv .1),
     )

@@ -45,7 +45,7 @@ returns-in-Break-written g c =
     let e₂ = job .right .count .arcs in
     record {
       writes = wrote-stopped (concats (g .A·Alphabet .labels)) (side-of (job .left .count .states)) (job .left .count .states + job .right .count .states) job (c .args .states .now) (c .args .arcs .now) (c .loop-x .arcs) (c .lead-on-from .last .arcs) (Copied e₁ e₂ (c .loop-x .x + 1, 0)) (Copied e₁ e₂ (e₁, 0))
-        (c .in-Break-written .field-0 .0) (c .from-residual .result) (c .pre .0) (c .loop-x .inv .0) (c .from-residual .ensures .1) (c .in-Break-written .ensures tt .writes);
+          (c .in-Break-written .field-0 .0) (c .from-residual .result) (c .pre .0) (c .loop-x .inv .0) (c .from-residual .ensures .1) (c .in-Break-written .ensures tt .writes);
     }
 
 pub loop-x-again : need.loop-x-again
@@ -59,12 +59,12 @@ loop-x-again g c =
     let kept = c .loop-x .inv .0 in
     let next = λ (u : List (Arc (g .A·Label .Denot))) (m : ℕ). Kept (job .used .arcs) arcs u × Written (concats a) (side-of (job .left .count .states)) (job .left .count .states + job .right .count .states) job s u m (Copied (job .left .count .arcs) (job .right .count .arcs) (x + 1, 0)) in
     elim (c .if-marks .came) [
-      then-marks·in-Continue-written w ↦
-        (let new = w .in-Continue-written .ensures tt .writes in
-        subst₂ next (sym (w .arcs-is)) (sym (w .written-is)) (kept-more (job .used .arcs) arcs t (w .lead-on-from .last .arcs) kept (new .0), new .1))
-    | else-marks w ↦
-        subst₂ next (sym (w .arcs-is)) (sym (w .written-is))
-        (kept, led-skip a job s t (c .loop-x .written) x (λ enters. both-ways _ (w .if-marks .left) (ap (λ m. m .accepting) (c .marks .ensures .reads) ∙ ap (λ q. marks-in s (job .left) q .accepting) (c .to .ensures .reads (blank g)) ∙ enters)) (c .loop-x .inv .1))
+      | then-marks·in-Continue-written w ↦
+          (let new = w .in-Continue-written .ensures tt .writes in
+          subst₂ next (sym (w .arcs-is)) (sym (w .written-is)) (kept-more (job .used .arcs) arcs t (w .lead-on-from .last .arcs) kept (new .0), new .1))
+      | else-marks w ↦
+          subst₂ next (sym (w .arcs-is)) (sym (w .written-is))
+          (kept, led-skip a job s t (c .loop-x .written) x (λ enters. both-ways _ (w .if-marks .left) (ap (λ m. m .accepting) (c .marks .ensures .reads) ∙ ap (λ q. marks-in s (job .left) q .accepting) (c .to .ensures .reads (blank g)) ∙ enters)) (c .loop-x .inv .1))
     ]
 
 pub returns : need.returns

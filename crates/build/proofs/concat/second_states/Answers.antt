@@ -14,11 +14,10 @@ loop-q-again c =
     let t = c .loop-q .states in
     let u = job .used .states + job .left .count .states in
     let q = c .loop-q .q in
-    let kept = c .loop-q .inv .0 in
-    (
+    let kept = c .loop-q .inv .0 in (
       kept-more u s t _ kept (kept-set u _ t (c .row .result) (omega arith)),
       marked-more u q t (λ i. second-marks (c .args .nullable) (marks-in s (job .right) i)) (c .row .result) (omega (arith, c .pre .1, kept .long))
-        (ap (λ r. r .marks) (c .row .ensures .marked) ∙ ap (second-marks (c .args .nullable)) (c .marks-at .ensures .reads ∙ marks-kept u s t (job .right) q kept (omega (arith, c .pre .0)))) (c .loop-q .inv .1),
+          (ap (λ r. r .marks) (c .row .ensures .marked) ∙ ap (second-marks (c .args .nullable)) (c .marks-at .ensures .reads ∙ marks-kept u s t (job .right) q kept (omega (arith, c .pre .0)))) (c .loop-q .inv .1),
     )
 
 pub returns : need.returns
