@@ -1,14 +1,13 @@
 -- The rows of a concatenation realize it.
 use mathlib.Core.Path.{_≡_, refl, sym, ap, subst, _∙_}
 use mathlib.Core.Bool.{Bool, true, false, _&&_}
-use mathlib.Core.List.{List, map, _++_}
+use mathlib.Core.List.{List, map}
 use mathlib.Core.Logic.{_⊎_, inl, inr, ⊎-elim, _↔_}
 use Prim.Native.Nat.{ℕ, min, _+_, _-_, _≤_, _<_}
 use native.Mathlib.Omega.{arith}
 use lib.ListN.{length, getD}
 use Rattle.std.specs.Orderings.{Decides}
 use Rattle.std.specs.Results.{ErrBy}
-use Rattle.std.specs.shelf.Lists.{Has}
 use Rattle.std.specs.declared.result.Result.{Result}
 use Rattle.std.specs.declared.result.Result.the-variants.{Ok, Err}
 use Rattle.std.proofs.shelf.Lists.{length-map, getD-map}
@@ -30,7 +29,7 @@ use Rattle.build.specs.declared.Place.{Place}
 use Rattle.build.specs.declared.Rows.{Rows}
 use Rattle.build.specs.declared.Stop.{Stop}
 use Rattle.build.specs.declared.Stop.the-variants.{StatesFull, ArcsFull, Outside}
-use Rattle.build.specs.Concats.{Side, Link, side-of, blank, first-marks, second-marks, concats, concat-of, Copied, InTurn, ConcatSizes}
+use Rattle.build.specs.Concats.{Link, side-of, blank, first-marks, second-marks, concats, concat-of, Copied, InTurn, ConcatSizes}
 use Rattle.build.specs.Emitted.{Emitted, Written, Wrote}
 use Rattle.build.specs.Outcome.{Built, NoStates, NoArcs, Outcome, Meant}
 use Rattle.build.specs.Pairs.{left-of, right-of, marks-in, Ready}

@@ -1,6 +1,6 @@
 -- Writing the rows of a concatenation: what each keeps.
 use mathlib.Core.Path.{_≡_, refl, sym, ap, subst, _∙_}
-use mathlib.Core.Bool.{Bool, true, false, cond, _&&_}
+use mathlib.Core.Bool.{true, false}
 use mathlib.Core.List.{List, map}
 use mathlib.Core.Logic.{_⊎_, inl, inr, ⊎-elim}
 use Prim.Native.Nat.{ℕ, _+_, _-_, _≤_, _<_}
@@ -10,22 +10,22 @@ use lib.ListN.{length, getD, set}
 use Rattle.std.specs.declared.result.Result.{Result}
 use Rattle.std.specs.declared.result.Result.the-variants.{Ok, Err}
 use Rattle.std.proofs.shelf.Lists.{getD-set-same, getD-set-other, getD-take}
-use Rattle.std.proofs.shelf.Tests.{cases-lt, cases-eq, cond-true, cond-false, lt-ltb, le-ltb}
+use Rattle.std.proofs.shelf.Tests.{cases-eq, cond-true, cond-false, lt-ltb, le-ltb}
 use Rattle.alphabet.specs.Labels.{Labels}
 use Rattle.automaton.specs.declared.Arc.{Arc}
 use Rattle.automaton.specs.declared.Marks.{Marks}
 use Rattle.automaton.specs.declared.State.{State}
 use Rattle.automaton.specs.Automaton.{Automaton, initial, accepting, arc-at}
 use Rattle.automaton.specs.Nfa.{Nfa, either}
-use Rattle.automaton.specs.Numbers.{Numbers, MoreThan}
+use Rattle.automaton.specs.Numbers.{Numbers}
 use Rattle.build.specs.declared.Operands.{Operands}
 use Rattle.build.specs.declared.Place.{Place}
 use Rattle.build.specs.declared.Stop.{Stop}
 use Rattle.build.specs.declared.Stop.the-variants.{StatesFull, ArcsFull, Outside}
-use Rattle.build.specs.Concats.{Side, Link, side-of, blank, concats, concat-of, Copied, Pushed}
+use Rattle.build.specs.Concats.{Link, side-of, blank, concats, concat-of, Copied, Pushed}
 use Rattle.build.specs.Emitted.{Stands-for, Written, Wrote}
 use Rattle.build.specs.Pairs.{left-of, right-of, marks-in, Ready}
-use Rattle.build.specs.Tables.{arc-room, arc-in, Kept}
+use Rattle.build.specs.Tables.{arc-in, Kept}
 use Rattle.build.proofs.Emitting.{written-push, written-full, before-more, before-last, before-row, before-none, not-before, row-before, written-pass, operands-arcs}
 use Rattle.build.proofs.Exploring.{arc-inside, arcs-count, states-count}
 use Rattle.build.proofs.Keeping.{kept-none, part-kept}

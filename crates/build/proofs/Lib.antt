@@ -1,5 +1,6 @@
 pub mod Keeping
 pub mod Concatenating
+pub mod Covering
 pub mod Emitting
 pub mod Joining
 pub mod Exploring

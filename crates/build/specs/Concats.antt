@@ -1,6 +1,6 @@
 -- The concatenation of two automata in built rows: the states of the first, then those of the second.
 use mathlib.Core.Path.{_≡_}
-use mathlib.Core.Bool.{Bool, true, false, cond, _&&_}
+use mathlib.Core.Bool.{Bool, false, cond, _&&_}
 use mathlib.Core.List.{List, _++_}
 use mathlib.Core.Logic.{_⊎_, inl, inr}
 use Prim.Native.Nat.{ℕ, _+_, _-_, _*_, _≤_, _<_}
@@ -21,7 +21,7 @@ use Rattle.build.specs.declared.Stop.{Stop}
 use Rattle.build.specs.declared.Stop.the-variants.{StatesFull, ArcsFull, Outside}
 use Rattle.build.specs.Emitted.{Before}
 use Rattle.build.specs.Pairs.{Pair, left-of, right-of}
-use Rattle.build.specs.Tables.{arc-room, Kept}
+use Rattle.build.specs.Tables.{arc-room}
 
 -- a state of the first or of the second
 abbrev pub Side : Type 0

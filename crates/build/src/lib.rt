@@ -1,4 +1,5 @@
 // Builds over lent rows: the automata read and the automaton built lie in the same two tables.
+pub mod all_words;
 pub mod concat;
 mod pairs;
 pub mod product;

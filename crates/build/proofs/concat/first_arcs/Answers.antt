@@ -1,13 +1,12 @@
-use mathlib.Core.Path.{_≡_, refl, sym, ap, subst, subst₂, _∙_}
-use Prim.Native.Nat.{ℕ, _+_}
+use mathlib.Core.Path.{_≡_, subst}
+use Prim.Native.Nat.{_+_}
 use native.Mathlib.Omega.{arith}
 use Rattle.std.specs.declared.result.Result.the-variants.{Ok, Err}
 use Rattle.automaton.specs.declared.Arc.{Arc}
-use Rattle.build.specs.Concats.{Link, concats, side-of, Copied}
-use Rattle.build.specs.Emitted.{Written, Wrote}
-use Rattle.build.specs.Tables.{arc-in, Kept}
-use Rattle.build.proofs.Emitting.{ready-arcs, written-none, written-pass, wrote-stopped}
-use Rattle.build.proofs.Joining.{pushed-first, pushed-second, pushed-led, led-row, led-last, led-more, first-none}
+use Rattle.build.specs.Concats.{concats, side-of, Copied}
+use Rattle.build.specs.Emitted.{Written}
+use Rattle.build.proofs.Emitting.{ready-arcs, written-none, wrote-stopped}
+use Rattle.build.proofs.Joining.{pushed-first, first-none}
 use Rattle.build.proofs.Keeping.{kept-none, kept-more}
 use Rattle.build.proofs.concat.first_arcs.Given as given
 use Rattle.build.proofs.concat.first_arcs.Needs as need

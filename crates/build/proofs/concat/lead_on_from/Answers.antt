@@ -1,20 +1,16 @@
-use mathlib.Core.Path.{_≡_, refl, sym, ap, subst, subst₂, _∙_}
+use mathlib.Core.Path.{refl, sym, ap, subst₂, _∙_}
 use mathlib.Core.List.{List}
-use mathlib.Core.Logic.{⊎-elim}
 use Prim.Native.Nat.{ℕ, _+_}
-use native.Mathlib.Omega.{arith}
 use Rattle.std.specs.declared.result.Result.the-variants.{Ok, Err}
 use Rattle.std.proofs.shelf.Tests.{both-ways}
 use Rattle.automaton.specs.declared.Arc.{Arc}
-use Rattle.automaton.specs.Automaton.{accepting, initial}
-use Rattle.build.specs.Concats.{Link, concats, side-of, Copied}
-use Rattle.build.specs.Emitted.{Written, Wrote}
-use Rattle.build.specs.Pairs.{left-of, right-of}
-use Rattle.build.specs.Tables.{arc-in, Kept}
-use Rattle.build.proofs.Emitting.{operands-arcs, ready-arcs, written-pass, wrote-stopped, row-before}
-use Rattle.build.proofs.Exploring.{arc-inside, states-count}
-use Rattle.build.proofs.Joining.{pushed-led, enters-still, led-pass, led-end, led-skip}
-use Rattle.build.proofs.Keeping.{kept-none, kept-more}
+use Rattle.automaton.specs.Automaton.{initial}
+use Rattle.build.specs.Concats.{concats, side-of, Copied}
+use Rattle.build.specs.Emitted.{Written}
+use Rattle.build.specs.Tables.{Kept}
+use Rattle.build.proofs.Emitting.{ready-arcs, wrote-stopped}
+use Rattle.build.proofs.Joining.{pushed-led, enters-still, led-pass, led-end}
+use Rattle.build.proofs.Keeping.{kept-more}
 use Rattle.build.proofs.concat.lead_on_from.Given as given
 use Rattle.build.proofs.concat.lead_on_from.Needs as need
 use Rattle.build.proofs.concat.lead_on_from.Needs.{then-marks·in-Continue-written, else-marks}
