@@ -1,13 +1,27 @@
-// Holds replies, one to a line of standard input, against the weir station's wait and a fixed text.
+// Holds replies, one to a line of standard input, against the weir station's wait, a fixed text, and what the
+// station sends: an optional acknowledgement and then the level.
 mod lines;
+mod reply;
 mod weir;
 
+use build::Place;
+use build::Stop;
 use lines::Reply;
 use lines::ReplyDisplay;
+use reply::Replies;
 use std::alloc::AllocError;
 use std::alloc::Global;
 use std::error::AnyError;
 use std::io::Read;
+
+// What each pattern says of a reply.
+#[derive(Clone, Copy)]
+struct Judged {
+    wait: bool,
+    text: bool,
+    joined: bool,
+    met: bool,
+}
 
 // How many replies were read, and how many of them each pattern accepted.
 #[derive(Clone, Copy)]
@@ -15,13 +29,27 @@ struct Tally {
     read: usize,
     wait: usize,
     text: usize,
+    joined: usize,
+    met: usize,
 }
 
 impl Tally {
-    fn note(&mut self, wait: bool, text: bool) {
+    fn none() -> Tally {
+        Tally {
+            read: 0,
+            wait: 0,
+            text: 0,
+            joined: 0,
+            met: 0,
+        }
+    }
+
+    fn note(&mut self, judged: Judged) {
         self.read = self.read.saturating_add(1);
-        self.wait = self.wait.saturating_add(wait as usize);
-        self.text = self.text.saturating_add(text as usize);
+        self.wait = self.wait.saturating_add(judged.wait as usize);
+        self.text = self.text.saturating_add(judged.text as usize);
+        self.joined = self.joined.saturating_add(judged.joined as usize);
+        self.met = self.met.saturating_add(judged.met as usize);
     }
 }
 
@@ -29,38 +57,70 @@ fn yes_no(b: bool) -> &'static str {
     if b { "yes" } else { "no" }
 }
 
-// The line of the record for one reply.
-fn judged(heap: Global, line: &[u8], tally: &mut Tally) -> Result<String, AllocError> {
-    let word = lines::letters(heap, line)?;
-    let wait = weir::awaits(&word);
-    let text = weir::is_level(&word);
-    tally.note(wait, text);
-    let reply = Reply(line);
-    let wait = yes_no(wait);
-    let text = yes_no(text);
-    format!(heap, "reply {reply} wait {wait} text {text}\n")
+fn judge(replies: &Replies, word: &[u32]) -> Judged {
+    Judged {
+        wait: weir::awaits(word),
+        text: weir::is_level(word),
+        joined: replies.accepts(replies.joined, word),
+        met: replies.accepts(replies.met, word),
+    }
 }
 
-// The record of an input: a line for each reply, and what they come to.
-fn record(heap: Global, input: &[u8]) -> Result<String, AllocError> {
+// The line of the record for one reply.
+fn line_of(heap: Global, line: &[u8], judged: Judged) -> Result<String, AllocError> {
+    let reply = Reply(line);
+    let wait = yes_no(judged.wait);
+    let text = yes_no(judged.text);
+    let joined = yes_no(judged.joined);
+    let met = yes_no(judged.met);
+    format!(
+        heap,
+        "reply {reply} wait {wait} text {text} joined {joined} met {met}\n"
+    )
+}
+
+fn size_of(heap: Global, name: &str, p: Place) -> Result<String, AllocError> {
+    let states = p.count.states;
+    let arcs = p.count.arcs;
+    format!(heap, "{name}: {states} states, {arcs} arcs\n")
+}
+
+// A line for each reply, and what they come to.
+fn replies_of(heap: Global, replies: &Replies, input: &[u8]) -> Result<String, AllocError> {
     let mut out = String::new(heap);
-    let mut tally = Tally {
-        read: 0,
-        wait: 0,
-        text: 0,
-    };
+    let mut tally = Tally::none();
     let mut rest = input;
     while !rest.is_empty() {
         let (line, after) = lines::cut(rest);
-        out.push_str(judged(heap, line, &mut tally)?.as_str())?;
+        let word = lines::letters(heap, line)?;
+        let judged = judge(replies, &word);
+        tally.note(judged);
+        out.push_str(line_of(heap, line, judged)?.as_str())?;
         rest = after;
     }
-    let Tally { read, wait, text } = tally;
+    let Tally {
+        read,
+        wait,
+        text,
+        joined,
+        met,
+    } = tally;
     let last = format!(
         heap,
-        "{read} read, {wait} accepted by the wait, {text} by the text\n"
+        "{read} read, accepted by the wait {wait}, the text {text}, the join {joined}, both {met}\n"
     )?;
     out.push_str(last.as_str())?;
+    Ok(out)
+}
+
+// The record of an input.
+fn record(heap: Global, input: &[u8]) -> Result<String, AllocError> {
+    let Ok(replies) = Replies::new() else {
+        return String::from_str(heap, "out of room\n");
+    };
+    let mut out = size_of(heap, "acknowledgement and level joined", replies.joined)?;
+    out.push_str(size_of(heap, "met with the wait", replies.met)?.as_str())?;
+    out.push_str(replies_of(heap, &replies, input)?.as_str())?;
     Ok(out)
 }
 
@@ -83,16 +143,22 @@ mod tests {
 
     #[test]
     fn an_empty_input_has_no_reply(rt: LibcRuntime) -> Result<(), Fail> {
-        let out = record(rt.alloc(), b"")?;
-        check(out.as_str() == "0 read, 0 accepted by the wait, 0 by the text\n")
+        let Ok(replies) = Replies::new() else {
+            return Err(Fail::new("out of room"));
+        };
+        let out = replies_of(rt.alloc(), &replies, b"")?;
+        check(out.as_str() == "0 read, accepted by the wait 0, the text 0, the join 0, both 0\n")
     }
 
     #[test]
     fn the_last_line_needs_no_line_end(rt: LibcRuntime) -> Result<(), Fail> {
-        let out = record(rt.alloc(), b"4.21")?;
+        let Ok(replies) = Replies::new() else {
+            return Err(Fail::new("out of room"));
+        };
+        let out = replies_of(rt.alloc(), &replies, b"#4.21")?;
         check(
             out.as_str()
-                == "reply \"4.21\" wait yes text yes\n1 read, 1 accepted by the wait, 1 by the text\n",
+                == "reply \"#4.21\" wait no text no joined yes met no\n1 read, accepted by the wait 0, the text 0, the join 1, both 0\n",
         )
     }
 }

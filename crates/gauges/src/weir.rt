@@ -18,9 +18,9 @@ use giver::fixed::FixedTextGiver;
 use giver::table::Table;
 use giver::table::TableGiver;
 
-const LEVEL: [u32; 4] = [52, 46, 50, 49];
+pub const LEVEL: [u32; 4] = [52, 46, 50, 49];
 
-fn state(initial: bool, accepting: bool) -> State
+pub fn state(initial: bool, accepting: bool) -> State
     ensures marked { λ r. ⌜ r ≡ record { marks = record { initial = initial; accepting = accepting }; left = 0; right = 0 } ⌝ }
 {
     State {
@@ -30,13 +30,13 @@ fn state(initial: bool, accepting: bool) -> State
     }
 }
 
-fn wait_states() -> [State; 2]
+pub fn wait_states() -> [State; 2]
     ensures rows { λ r. ⌜ r ≡ wait-states ⌝ }
 {
     [state(true, false), state(false, true)]
 }
 
-fn wait_arcs() -> [Arc<ModemLabel>; 2]
+pub fn wait_arcs() -> [Arc<ModemLabel>; 2]
     ensures rows { λ r. ⌜ r ≡ wait-arcs ⌝ }
 {
     let digit = Arc {
