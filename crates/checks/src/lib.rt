@@ -1,4 +1,7 @@
-// Examples of what the alphabets, the tables and the fixed texts answer.
+// Examples of what the alphabets, the tables, the fixed texts and the products answer.
+
+#[cfg(test)]
+mod builds;
 
 #[cfg(test)]
 mod labels {
