@@ -1,4 +1,4 @@
-// Products of small automata that lie in one pair of tables: all words, "A" and "B".
+// Builds of small automata that lie in one pair of tables: all words, "A" and "B"; the empty text and "7".
 ghost use Prim.Native.Nat.{_≤_};
 use alphabet::Alphabet;
 use alphabet::RangedAlphabet;
@@ -13,6 +13,8 @@ use build::Operands;
 use build::Place;
 use build::Rows;
 use build::Stop;
+use build::all_words::all_words;
+use build::concat::concat;
 use build::product::product;
 use giver::accepts::accepts;
 use giver::table::Table;
@@ -156,4 +158,65 @@ fn operands_outside_are_refused() -> Result<(), Fail> {
     arcs[2].to = 2;
     check(matches!(meet(&mut states, &mut arcs, A, B), Err(Stop::Outside)))?;
     check(is_built(meet(&mut states, &mut arcs, ALL_WORDS, A), 2, 1))
+}
+
+// Whether the answer has so many rows.
+fn counts(p: Place, states: usize, arcs: usize) -> bool {
+    p.count.states == states && p.count.arcs == arcs
+}
+
+#[test]
+fn the_empty_text_then_seven_met_with_seven() -> Result<(), Fail> {
+    let spare = state(false, false);
+    let mut states = [spare; 12];
+    states[0] = state(true, true);
+    states[1] = state(true, false);
+    states[2] = state(false, true);
+    let mut arcs = [arc(Text::range(55, 55), 1); 6];
+    let seven = Place {
+        first: Rows { states: 1, arcs: 0 },
+        count: Rows { states: 2, arcs: 1 },
+    };
+    let join = Operands {
+        used: Rows { states: 3, arcs: 1 },
+        left: Place {
+            first: Rows { states: 0, arcs: 0 },
+            count: Rows { states: 1, arcs: 0 },
+        },
+        right: seven,
+    };
+    let Ok(joined) = concat::<Text>(&mut states, &mut arcs, join) else {
+        return Err(Fail::new("no join"));
+    };
+    check(counts(joined, 3, 1))?;
+    let meet = Operands {
+        used: Rows { states: 6, arcs: 2 },
+        left: joined,
+        right: seven,
+    };
+    let Ok(met) = product::<Text>(&mut states, &mut arcs, meet) else {
+        return Err(Fail::new("no product"));
+    };
+    check(counts(met, 3, 1))
+}
+
+#[test]
+fn all_words_take_one_row_of_each() -> Result<(), Fail> {
+    let mut states = [state(false, false); 2];
+    let mut arcs = [arc(Text::range(66, 65), 9); 1];
+    let one = Rows { states: 1, arcs: 0 };
+    let Ok(all) = all_words::<Text>(&mut states, &mut arcs, one) else {
+        return Err(Fail::new("no room"));
+    };
+    check(counts(all, 1, 1))?;
+    let full = Rows { states: 1, arcs: 1 };
+    check(matches!(
+        all_words::<Text>(&mut states, &mut arcs, full),
+        Err(Stop::ArcsFull)
+    ))?;
+    let past = Rows { states: 3, arcs: 0 };
+    check(matches!(
+        all_words::<Text>(&mut states, &mut arcs, past),
+        Err(Stop::Outside)
+    ))
 }
