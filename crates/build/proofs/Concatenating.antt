@@ -31,7 +31,7 @@ use Rattle.build.specs.declared.Stop.{Stop}
 use Rattle.build.specs.declared.Stop.the-variants.{StatesFull, ArcsFull, Outside}
 use Rattle.build.specs.Concats.{Link, side-of, blank, first-marks, second-marks, concats, concat-of, Copied, InTurn, ConcatSizes}
 use Rattle.build.specs.Emitted.{Emitted, Written, Wrote}
-use Rattle.build.specs.Outcome.{Built, NoStates, NoArcs, Outcome, Meant}
+use Rattle.build.specs.Outcome.{NoStates, NoArcs, Outcome, Meant}
 use Rattle.build.specs.Pairs.{left-of, right-of, marks-in, Ready}
 use Rattle.build.specs.Tables.{part, at, state-room, arc-room, Kept}
 use Rattle.build.proofs.Emitting.{operands-arcs, operands-arcs-were, wrote-stopped}
@@ -40,7 +40,7 @@ use Rattle.build.proofs.Joining.{side-left, side-right, sides-number}
 use Rattle.build.proofs.Keeping.{kept-more}
 use Rattle.build.proofs.Linking.{links-counted}
 use Rattle.build.proofs.Parts.{length-part, getD-part}
-use Rattle.build.proofs.Producing.{emitted-realizes}
+use Rattle.build.proofs.Producing.{built-counts, emitted-realizes}
 
 -- a writing that went on from kept arcs
 pub wrote-after : {S X L : Type 0} (N : Automaton L → Automaton L → Nfa S X L) (name : ℕ → S) (n : ℕ) (job : Operands) (states : List State) (arcs t u : List (Arc L)) (P : X → Type 0) (r : Result ℕ Stop) → Ready job states arcs → Kept (job .used .arcs) arcs t → Wrote N name n job states t u P r → Wrote N name n job states arcs u P r
@@ -176,15 +176,6 @@ built-concat-exact a m k used t u (Ok p) h = λ w.
     let turn = concat-exact w in (
       λ x. let y = turn .0 (real .0 x) in (y .0, y .1, y .2, rows-exact a m (y .0) .0 (y .3), rows-exact a k (y .1) .0 (y .4)),
       λ x. real .1 (turn .1 (x .0, x .1, x .2, rows-exact a m (x .0) .1 (x .3), rows-exact a k (x .1) .1 (x .4))),
-    )
-
--- the rows of what was built are as many as its place says
-pub built-counts : {S E L : Type 0} (a : Labels L) (nfa : Nfa S E L) (used : Rows) (t : List State) (u : List (Arc L)) (p : Place) → Built a nfa used t u p → (length (at t u p .states) ≡ p .count .states) × (length (at t u p .arcs) ≡ p .count .arcs)
-built-counts a nfa used t u p h =
-    let first-state = ap (λ (r : Rows). r .states) (h .behind) in
-    let first-arc = ap (λ (r : Rows). r .arcs) (h .behind) in (
-      length-map (part t (p .first .states) (p .count .states)) (λ (r : State). r .marks) ∙ length-part t (p .first .states) (p .count .states) (omega (arith, h .states-fit)),
-      length-part u (p .first .arcs) (p .count .arcs) (omega (arith, h .arcs-fit)),
     )
 
 pub built-concat-sizes : {L : Type 0} (a : Labels L) (m k : Automaton L) (used : Rows) (t : List State) (u : List (Arc L)) (r : Result Place Stop) → Outcome a (concats a m k) used t u r → Meant r (λ p. ConcatSizes m k (p .count))

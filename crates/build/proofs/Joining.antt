@@ -22,8 +22,8 @@ use Rattle.build.specs.declared.Operands.{Operands}
 use Rattle.build.specs.declared.Place.{Place}
 use Rattle.build.specs.declared.Stop.{Stop}
 use Rattle.build.specs.declared.Stop.the-variants.{StatesFull, ArcsFull, Outside}
-use Rattle.build.specs.Concats.{Link, side-of, blank, concats, concat-of, Copied, Pushed}
-use Rattle.build.specs.Emitted.{Stands-for, Written, Wrote}
+use Rattle.build.specs.Concats.{Link, side-of, blank, concats, concat-of, Copied}
+use Rattle.build.specs.Emitted.{Stands-for, Written, Wrote, Pushed}
 use Rattle.build.specs.Pairs.{left-of, right-of, marks-in, Ready}
 use Rattle.build.specs.Tables.{arc-in, Kept}
 use Rattle.build.proofs.Emitting.{written-push, written-full, before-more, before-last, before-row, before-none, not-before, row-before, written-pass, operands-arcs}

@@ -31,7 +31,7 @@ use Rattle.build.specs.declared.Rows.{Rows}
 use Rattle.build.specs.declared.Stop.{Stop}
 use Rattle.build.specs.declared.Stop.the-variants.{StatesFull, ArcsFull, Outside}
 use Rattle.build.specs.Emitted.{Emitted, name-of, Paired, Before, Written, Wrote}
-use Rattle.build.specs.Outcome.{Built, NoStates, NoArcs, Outcome, Meant}
+use Rattle.build.specs.Outcome.{Built, NoStates, NoArcs, Outcome, Meant, Sizes}
 use Rattle.build.specs.Pairs.{Pair, pair-of, both, left-of, right-of, products, product-of, marks-of, Ready, Extended}
 use Rattle.build.specs.Tables.{part, at, arc-room, Kept}
 use Rattle.build.proofs.Emitting.{operands-arcs, operands-arcs-were}
@@ -175,3 +175,24 @@ built-product-exact a laws m k used t u (Ok p) h = λ w.
       λ x. let y = both′ .0 (real .0 x) in (rows-exact a m w .0 (y .0), rows-exact a k w .0 (y .1)),
       λ x. real .1 (both′ .1 (rows-exact a m w .1 (x .0), rows-exact a k w .1 (x .1))),
     )
+
+-- the rows of what was built are as many as its place says
+pub built-counts : {S E L : Type 0} (a : Labels L) (nfa : Nfa S E L) (used : Rows) (t : List State) (u : List (Arc L)) (p : Place) → Built a nfa used t u p → (length (at t u p .states) ≡ p .count .states) × (length (at t u p .arcs) ≡ p .count .arcs)
+built-counts a nfa used t u p h =
+    let first-state = ap (λ (r : Rows). r .states) (h .behind) in
+    let first-arc = ap (λ (r : Rows). r .arcs) (h .behind) in (
+      length-map (part t (p .first .states) (p .count .states)) (λ (r : State). r .marks) ∙ length-part t (p .first .states) (p .count .states) (omega (arith, h .states-fit)),
+      length-part u (p .first .arcs) (p .count .arcs) (omega (arith, h .arcs-fit)),
+    )
+
+pub built-sizes : {S E L : Type 0} (a : Labels L) (nfa : Nfa S E L) (used : Rows) (t : List State) (u : List (Arc L)) (r : Result Place Stop) → Outcome a nfa used t u r → Meant r (λ p. Sizes nfa (p .count))
+built-sizes a nfa used t u (Err e) h = tt
+built-sizes a nfa used t u (Ok p) h =
+    let counts = built-counts a nfa used t u p h in
+    let real = h .realizes in
+    record {
+      state = real .name;
+      states = subst (λ n. Numbers (nfa .State) n (real .name)) (counts .0) (real .states);
+      arrow = real .arrow;
+      arcs = subst (λ n. Numbers (nfa .Arrow) n (real .arrow)) (counts .1) (real .arcs);
+    }

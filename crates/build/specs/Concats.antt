@@ -3,12 +3,10 @@ use mathlib.Core.Path.{_≡_}
 use mathlib.Core.Bool.{Bool, false, cond, _&&_}
 use mathlib.Core.List.{List, _++_}
 use mathlib.Core.Logic.{_⊎_, inl, inr}
-use Prim.Native.Nat.{ℕ, _+_, _-_, _*_, _≤_, _<_}
+use Prim.Native.Nat.{ℕ, _+_, _-_, _*_, _<_}
 use lib.Dec.{ltb}
-use lib.ListN.{length, set}
+use lib.ListN.{length}
 use Rattle.std.specs.shelf.Lists.{countBy}
-use Rattle.std.specs.declared.result.Result.{Result}
-use Rattle.std.specs.declared.result.Result.the-variants.{Ok, Err}
 use Rattle.alphabet.specs.Labels.{Labels, Set}
 use Rattle.automaton.specs.declared.Arc.{Arc}
 use Rattle.automaton.specs.declared.Marks.{Marks}
@@ -17,11 +15,8 @@ use Rattle.automaton.specs.Automaton.{Automaton, Accepts, Word, accepting, unma
 use Rattle.automaton.specs.Nfa.{Nfa, concat, rows}
 use Rattle.build.specs.declared.Operands.{Operands}
 use Rattle.build.specs.declared.Rows.{Rows}
-use Rattle.build.specs.declared.Stop.{Stop}
-use Rattle.build.specs.declared.Stop.the-variants.{StatesFull, ArcsFull, Outside}
 use Rattle.build.specs.Emitted.{Before}
 use Rattle.build.specs.Pairs.{Pair, left-of, right-of}
-use Rattle.build.specs.Tables.{arc-room}
 
 -- a state of the first or of the second
 abbrev pub Side : Type 0
@@ -72,10 +67,3 @@ abbrev pub Copied : ℕ → ℕ → Pair → Link → Type 0
 Copied x y z (inl k) = k < x
 Copied x y z (inr (inl k)) = k < y
 Copied x y z (inr (inr p)) = Before (z .0) (z .1) p
-
--- an arc was put behind e others, or there was no room for it
-abbrev pub Pushed : {L : Type 0} → ℕ → List (Arc L) → List (Arc L) → ℕ → Arc L → Result ℕ Stop → Type 0
-Pushed used before after e b (Ok d) = (d ≡ e + 1) × (used + e < arc-room before) × (after ≡ set before (used + e) b)
-Pushed used before after e b (Err ArcsFull) = (arc-room before ≤ used + e) × (after ≡ before)
-Pushed used before after e b (Err StatesFull) = ⊥
-Pushed used before after e b (Err Outside) = ⊥

@@ -3,7 +3,7 @@ use mathlib.Core.Path.{_≡_}
 use mathlib.Core.List.{List}
 use mathlib.Core.Logic.{_⊎_}
 use Prim.Native.Nat.{ℕ, _+_, _-_, _≤_, _<_}
-use lib.ListN.{length, getD}
+use lib.ListN.{length, getD, set}
 use Rattle.std.specs.shelf.Lists.{All, Has}
 use Rattle.std.specs.declared.result.Result.{Result}
 use Rattle.std.specs.declared.result.Result.the-variants.{Ok, Err}
@@ -62,3 +62,10 @@ Wrote N name n job states before after Looked (Ok e) = Kept (job .used .arcs) be
 Wrote {X = X} N name n job states before after Looked (Err ArcsFull) = Kept (job .used .arcs) before after × ((f : ℕ → X) × MoreThan (N (left-of job states before) (right-of job states before) .Arrow) (arc-room before - job .used .arcs) f)
 Wrote N name n job states before after Looked (Err StatesFull) = ⊥
 Wrote N name n job states before after Looked (Err Outside) = ⊥
+
+-- an arc was put behind e others, or there was no room for it
+abbrev pub Pushed : {L : Type 0} → ℕ → List (Arc L) → List (Arc L) → ℕ → Arc L → Result ℕ Stop → Type 0
+Pushed used before after e b (Ok d) = (d ≡ e + 1) × (used + e < arc-room before) × (after ≡ set before (used + e) b)
+Pushed used before after e b (Err ArcsFull) = (arc-room before ≤ used + e) × (after ≡ before)
+Pushed used before after e b (Err StatesFull) = ⊥
+Pushed used before after e b (Err Outside) = ⊥

@@ -23,6 +23,13 @@ pub record Built {S E L : Type 0} (a : Labels L) (n : Nfa S E L) (used : Rows) (
   pub arcs-fit : used .arcs + p .count .arcs ≤ arc-room arcs
   pub realizes : Realizes a n (at states arcs p)
 
+-- how many states and arcs the abstract automaton has
+pub record Sizes {S E L : Type 0} (n : Nfa S E L) (count : Rows) : Type 0 where
+  pub state : ℕ → S
+  pub states : Numbers (n .State) (count .states) state
+  pub arrow : ℕ → E
+  pub arcs : Numbers (n .Arrow) (count .arcs) arrow
+
 -- the states do not fit
 pub record NoStates {S E L : Type 0} (n : Nfa S E L) (used : Rows) (states : List State) : Type 0 where
   pub state : ℕ → S

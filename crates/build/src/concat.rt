@@ -9,7 +9,7 @@ ghost use Rattle.build.specs.Concats.{concats, concat-of, InTurn, ConcatSizes,
 ghost use Rattle.build.specs.Emitted.{Written, Wrote};
 ghost use mathlib.Core.Logic.{_↔_};
 ghost use Rattle.automaton.specs.Automaton.{Accepts, Word, accepting};
-ghost use Rattle.build.specs.Outcome.{Outcome, Answer, Meant};
+ghost use Rattle.build.specs.Outcome.{Outcome, Answer, Meant, Sizes};
 ghost use Rattle.build.specs.Pairs.{Ready, marks-in, left-of, right-of};
 ghost use Rattle.build.specs.Tables.{Kept, arc-in, at};
 use crate::Operands;
@@ -223,6 +223,7 @@ pub fn concat<A: Alphabet>(
         (job .used) (now (states .exit)) (now (arcs .exit)) r ⌝ }
     ensures accepts_in_turn { λ r. ⌜ Meant r (λ p. (w : Word) → Accepts (A·Alphabet .labels .admits) (at (now (states .exit)) (now (arcs .exit)) p) w
         ↔ InTurn (A·Alphabet .labels .admits) (left-of job (now (states .entry)) (now (arcs .entry))) (right-of job (now (states .entry)) (now (arcs .entry))) w) ⌝ }
+    ensures counted_sizes { λ r. ⌜ Meant r (λ p. Sizes (concat-of (A·Alphabet .labels) job (now (states .entry)) (now (arcs .entry))) (p .count)) ⌝ }
     ensures sizes { λ r. ⌜ Meant r (λ p. ConcatSizes (left-of job (now (states .entry)) (now (arcs .entry))) (right-of job (now (states .entry)) (now (arcs .entry))) (p .count)) ⌝ }
     ensures keeps_states { λ _. ⌜ Kept (job .used .states) (now (states .entry)) (now (states .exit)) ⌝ }
     ensures keeps_arcs { λ _. ⌜ Kept (job .used .arcs) (now (arcs .entry)) (now (arcs .exit)) ⌝ }

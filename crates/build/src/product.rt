@@ -3,7 +3,7 @@ ghost use Prim.Native.Nat.{_+_, _<_};
 ghost use mathlib.Core.Logic.{_↔_};
 ghost use Rattle.automaton.specs.Automaton.{Accepts, Word};
 ghost use Rattle.build.specs.Emitted.{name-of, Paired, Before, Written, Wrote};
-ghost use Rattle.build.specs.Outcome.{Outcome, Answer, Meant};
+ghost use Rattle.build.specs.Outcome.{Outcome, Answer, Meant, Sizes};
 ghost use Rattle.build.specs.Pairs.{Ready, products, product-of, left-of, right-of};
 ghost use Rattle.build.specs.Tables.{Kept, at};
 use crate::Operands;
@@ -13,10 +13,9 @@ use crate::Stop;
 use crate::pairs::explore;
 use crate::pairs::find;
 use crate::pairs::meets;
-use crate::table::arc_room;
 use crate::table::from;
 use crate::table::label;
-use crate::table::put;
+use crate::table::push;
 use crate::table::ready;
 use crate::table::to;
 use alphabet::Alphabet;
@@ -58,21 +57,17 @@ fn emit_pair<A: Alphabet>(
     ) else {
         unreachable()
     };
-    let at = job.used.arcs + e;
-    if at >= arc_room(arcs) {
-        return Err(Stop::ArcsFull);
-    }
     let label = A::meet(&label(arcs, job.left, x), &label(arcs, job.right, y));
-    put(
+    push(
         arcs,
-        at,
+        job.used.arcs,
+        e,
         Arc {
             from: i,
             label,
             to: j,
         },
-    );
-    Ok(e + 1)
+    )
 }
 
 // Writes the arcs of the left arc x with every right arc.
@@ -142,6 +137,7 @@ pub fn product<A: Alphabet>(
         (job .used) (now (states .exit)) (now (arcs .exit)) r ⌝ }
     ensures accepts_what_both_accept { λ r. ⌜ Meant r (λ p. (w : Word) → Accepts (A·Alphabet .labels .admits) (at (now (states .exit)) (now (arcs .exit)) p) w
         ↔ (Accepts (A·Alphabet .labels .admits) (left-of job (now (states .entry)) (now (arcs .entry))) w × Accepts (A·Alphabet .labels .admits) (right-of job (now (states .entry)) (now (arcs .entry))) w)) ⌝ }
+    ensures sizes { λ r. ⌜ Meant r (λ p. Sizes (product-of (A·Alphabet .labels) job (now (states .entry)) (now (arcs .entry))) (p .count)) ⌝ }
     ensures keeps_states { λ _. ⌜ Kept (job .used .states) (now (states .entry)) (now (states .exit)) ⌝ }
     ensures keeps_arcs { λ _. ⌜ Kept (job .used .arcs) (now (arcs .entry)) (now (arcs .exit)) ⌝ }
 {

@@ -5,7 +5,7 @@ ghost use mathlib.Core.List.{map};
 ghost use lib.ListN.{length, getD, set};
 ghost use Rattle.std.specs.Orderings.{Decides};
 ghost use Rattle.automaton.specs.Automaton.{unmarked};
-ghost use Rattle.build.specs.Concats.{Pushed};
+ghost use Rattle.build.specs.Emitted.{Pushed};
 ghost use Rattle.build.specs.Pairs.{Ready};
 ghost use Rattle.build.specs.Tables.{state-room, arc-room, part, Lies, InUse, Stands};
 use crate::ARC_ROWS;

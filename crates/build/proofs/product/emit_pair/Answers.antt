@@ -12,9 +12,10 @@ use Rattle.build.specs.declared.Operands.{Operands}
 use Rattle.automaton.specs.Nfa.{go}
 use Rattle.build.specs.Emitted.{Stands-for, name-of, Before, Written}
 use Rattle.build.specs.Pairs.{Pair, pairs, products, product-of}
-use Rattle.build.specs.Tables.{Kept, arc-in}
-use Rattle.build.proofs.Emitting.{paired-has, written-pass, written-push, written-full, before-more, before-last, not-before}
+use Rattle.build.specs.Tables.{arc-in}
+use Rattle.build.proofs.Emitting.{paired-has, written-pass, before-more, before-last, not-before}
 use Rattle.build.proofs.Exploring.{arcs-count}
+use Rattle.build.proofs.Joining.{wrote-push}
 use Rattle.build.proofs.Keeping.{kept-none}
 use Rattle.build.proofs.product.emit_pair.Given as given
 use Rattle.build.proofs.product.emit_pair.Needs as need
@@ -79,16 +80,6 @@ unreachable-requires g c κs =
     c .in-rest-find .ensures tt .finds
     (paired-has a job s arcs (c .args .n) (c .to .result, c .to-2 .result) (c .pre .0 .0) (go (c .args .x) (c .args .y) (from .2) (from .0) (from .1) refl refl (from .3) (sym (c .to .ensures .reads d)) (sym (c .to-2 .ensures .reads d))))
 
-pub returns-then-at-arc-room : need.returns-then-at-arc-room
-returns-then-at-arc-room g c =
-    let arcs = c .args .arcs .now in
-    record {
-      writes = (
-        kept-none (c .args .job .used .arcs) arcs,
-        written-full (products (g .A·Alphabet .labels)) (name-of (c .args .job) (c .args .states .now) (c .args .n)) (c .args .n) (c .args .job) (c .args .states .now) arcs (c .args .e) (Before (c .args .x) (c .args .y)) (Before (c .args .x) (c .args .y + 1)) (c .args .x, c .args .y) (not-before (c .args .x) (c .args .y)) (c .pre .0 .1) (arrow g (need.at·returns-then-at-arc-room g c .In-Some)) (omega arith),
-      );
-    }
-
 pub returns : need.returns
 returns g c =
     let a = g .A·Alphabet .labels in
@@ -96,7 +87,6 @@ returns g c =
     let arcs = c .args .arcs .now in
     let s = c .args .states .now in
     let n = c .args .n in
-    let e = c .args .e in
     let d : Arc (g .A·Label .Denot) = record { from = 0; label = a .full; to = 0 } in
     let found = c .in-Some .ensures tt .finds in
     let found′ = c .in-Some-find .ensures tt .finds in
@@ -108,7 +98,8 @@ returns g c =
       to-is = found′ .1 ∙ (λ j. (c .to .ensures .reads d j, c .to-2 .ensures .reads d j));
       label-is = c .meet-label .ensures .is-meet ∙ (λ j. a .meet (c .label .ensures .reads d j) (c .label-2 .ensures .reads d j));
     } in
+    let x = c .args .x in
+    let y = c .args .y in
     record {
-      writes = subst (λ t. Kept (job .used .arcs) arcs t × Written (products a) (name-of job s n) n job s t (e + 1) (Before (c .args .x) (c .args .y + 1))) (sym (c .put .ensures .writes))
-          (written-push (products a) (name-of job s n) n job s arcs e (Before (c .args .x) (c .args .y)) (Before (c .args .x) (c .args .y + 1)) (c .args .x, c .args .y) (not-before (c .args .x) (c .args .y)) (c .pre .0 .1) (arrow g (need.at·returns g c .In-Some)) (c .pre .0 .0 .ready) b for (before-more (c .args .x) (c .args .y)) (inr (refl, omega arith)) (before-last (c .args .x) (c .args .y)) (omega arith));
+      writes = wrote-push (products a) (name-of job s n) n job s arcs (c .push .last .arcs) (c .args .e) (Before x y) (Before x (y + 1)) (x, y) b (c .push .result) (not-before x y) (c .pre .0 .1) (arrow g (need.at·returns g c .In-Some)) (c .pre .0 .0 .ready) for (before-more x y) (inr (refl, omega arith)) (before-last x y) (c .push .ensures .pushes);
     }

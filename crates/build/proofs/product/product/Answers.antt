@@ -1,6 +1,6 @@
 use mathlib.Core.Logic.{inl}
-use Rattle.build.specs.Pairs.{left-of, right-of}
-use Rattle.build.proofs.Producing.{built-product-exact}
+use Rattle.build.specs.Pairs.{left-of, right-of, product-of}
+use Rattle.build.proofs.Producing.{built-product-exact, built-sizes}
 use Rattle.build.proofs.product.product.Needs as need
 
 pub returns : need.returns
@@ -14,6 +14,7 @@ returns g c =
     record {
       answers = inl (ready, built .builds);
       accepts-what-both-accept = built-product-exact a (g .A·Alphabet·met .lawful) (left-of job s arcs) (right-of job s arcs) (job .used) (c .build .last .states) (c .build .last .arcs) (c .build .result) (built .builds);
+      sizes = built-sizes a (product-of a job s arcs) (job .used) (c .build .last .states) (c .build .last .arcs) (c .build .result) (built .builds);
       keeps-states = built .keeps-states;
       keeps-arcs = built .keeps-arcs;
     }
