@@ -1,6 +1,7 @@
 // Builds over lent rows: the automata read and the automaton built lie in the same two tables.
 pub mod all_words;
 pub mod concat;
+pub mod operand;
 mod pairs;
 pub mod product;
 mod table;

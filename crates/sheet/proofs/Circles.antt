@@ -7,7 +7,7 @@ use Prim.Native.Nat.{ℕ, _+_, _≤_, _<_}
 use native.Mathlib.Omega.{arith}
 use lib.ListN.{length, getD, set, take}
 use Rattle.std.specs.shelf.Lists.{Has, countBy}
-use Rattle.std.proofs.shelf.Lists.{getD-take, length-take-le, length-set, getD-set-same, getD-set-other}
+use Rattle.std.proofs.shelf.Lists.{length-set, getD-set-same, getD-set-other}
 use Rattle.std.proofs.shelf.Sums.{sumBy-set}
 use Rattle.std.proofs.shelf.Tests.{cases-eq, cases-bool, both-ways}
 use Rattle.std.proofs.shelf.Elements.{has-append-left, has-push, has-push-cases, has-getD}
@@ -74,17 +74,6 @@ module _ (js : List Join) (j : Join) where
 
   pub circle : Closes js (j .left) (j .right) (j .whole) → Acyclic js′ → ⊥
   circle h ok = ok (j .whole) (⊎-elim (down (j .left) new-left) (down (j .right) new-right) h)
-
--- what stands below n is held
-pub held-at : (js : List Join) (n k : ℕ) → n ≤ length js → k < n → Has (take n js) (getD js k none)
-held-at js n k fits low =
-    subst (Has (take n js)) (getD-take n js k none low) (has-getD (take n js) k none (rw (length-take-le n js fits) low))
-
--- what is held stands below n
-pub held-place : (js : List Join) (n : ℕ) (j : Join) → n ≤ length js → Has (take n js) j → (k : ℕ) × (k < n) × (getD js k none ≡ j)
-held-place js n j fits has =
-    let low : has .0 < n = omega (arith, has .1, length-take-le n js fits) in
-    (has .0, low, sym (getD-take n js (has .0) none low) ∙ has .2 none)
 
 -- marks that are settled hold whatever is at or below a marked part
 pub settled-all : (js : List Join) (marks : List Bool) → ((j : Join) → Has js j → Settled marks j) → {x y : ℕ} → Below js x y → Marked marks x → Marked marks y

@@ -1,2 +1,4 @@
 pub mod Calls
+pub mod Checks
 pub mod Joins
+pub mod Patterns

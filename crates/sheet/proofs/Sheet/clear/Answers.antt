@@ -3,4 +3,6 @@ use Rattle.sheet.proofs.Circles.{nothing-below}
 use Rattle.sheet.proofs.Sheet.clear.Needs as need
 
 pub ghost-self : need.ghost-self
-ghost-self c = (omega arith, (omega arith, (c .args .self .now .long, ((λ j has. absurd (omega (arith, has .1))), ((λ p b. nothing-below b), tt)))))
+ghost-self c =
+    let s = c .args .self .now in
+    (omega arith, (omega arith, (omega arith, (omega arith, (omega arith, (s .«long_patterns», (s .«long_joins», ((λ h has. absurd (omega (arith, has .1))), ((λ h has. absurd (omega (arith, has .1))), ((λ j has. absurd (omega (arith, has .1))), ((λ p b. nothing-below b), tt)))))))))))

@@ -1,7 +1,7 @@
 use mathlib.Core.Path.{_≡_, refl, sym, subst, _∙_}
 use mathlib.Core.Bool.{false}
 use mathlib.Core.List.{[], _∷_, _++_}
-use mathlib.Core.Logic.{inr, ⊎-elim}
+use mathlib.Core.Logic.{inl, inr, ⊎-elim}
 use Prim.Native.Nat.{_+_, _<_}
 use native.Mathlib.Omega.{arith}
 use lib.ListN.{length, set, take}
@@ -15,10 +15,10 @@ use Rattle.sheet.proofs.Sheet.join.Needs.{After-closes}
 
 -- the join behind those that are held
 pushed : (c : After-closes) → take (c .args .self .now .counts .joins + 1) (set (c .args .self .now .joins) (c .args .self .now .counts .joins) (c .args .join)) ≡ take (c .args .self .now .counts .joins) (c .args .self .now .joins) ++ c .args .join ∷ []
-pushed c = take-more-set (c .args .self .now .joins) (c .args .self .now .counts .joins) (c .args .join) (omega (arith, c .args .self .now .long))
+pushed c = take-more-set (c .args .self .now .joins) (c .args .self .now .counts .joins) (c .args .join) (omega (arith, c .args .self .now .«long_joins»))
 
 held : (c : After-closes) → length (take (c .args .self .now .counts .joins) (c .args .self .now .joins)) ≡ c .args .self .now .counts .joins
-held c = length-take-le (c .args .self .now .counts .joins) (c .args .self .now .joins) (omega (arith, c .args .self .now .long))
+held c = length-take-le (c .args .self .now .counts .joins) (c .args .self .now .joins) (omega (arith, c .args .self .now .«long_joins»))
 
 pub returns-then-closes : need.returns-then-closes
 returns-then-closes c =
@@ -26,7 +26,7 @@ returns-then-closes c =
     let d = need.at·returns-then-closes c .After-closes in
     record {
       answers = (
-        inr (inr (refl, (omega arith, omega arith, omega arith), omega (arith, held d), circle (take (s .counts .joins) (s .joins)) (c .args .join) (c .closes .ensures .decides .0 (c .if-closes .taken)))),
+        inr ((omega arith, omega arith, omega arith), inr (omega (arith, held d), inl (refl, circle (take (s .counts .joins) (s .joins)) (c .args .join) (c .closes .ensures .decides .0 (c .if-closes .taken))))),
         refl,
       );
     }
@@ -41,11 +41,15 @@ ghost-self c =
     let s = c .args .self .now in
     let d = need.at·ghost-self c .After-closes in
     let known : Known (s .counts .parts) (take (s .counts .joins) (s .joins) ++ c .args .join ∷ []) = λ j has. ⊎-elim (λ old. s .known j old) (λ same. subst (λ i. (i .whole < s .counts .parts) × (i .left < s .counts .parts) × (i .right < s .counts .parts)) same (omega arith, omega arith, omega arith)) (has-push-cases (take (s .counts .joins) (s .joins)) (c .args .join) j has) in
-    (s .«few_parts», (omega arith, (length-set (s .joins) (s .counts .joins) (c .args .join) ∙ s .long, (subst (Known (s .counts .parts)) (sym (pushed d)) known, (subst Acyclic (sym (pushed d)) (ok d (c .if-closes .left)), tt)))))
+    (
+      s .«few_parts»,
+      (s .«few_patterns», (omega arith, (s .«few_states», (s .«few_arcs», (s .«long_patterns», (length-set (s .joins) (s .counts .joins) (c .args .join) ∙ s .«long_joins», (s .«for_parts», (s .among, (subst (Known (s .counts .parts)) (sym (pushed d)) known, (subst Acyclic (sym (pushed d)) (ok d (c .if-closes .left)), tt)))))))))),
+    )
 
 pub returns : need.returns
 returns c =
+    let s = c .args .self .now in
     let d = need.at·returns c .After-closes in
     record {
-      answers = ((omega arith, omega arith, omega arith), omega (arith, held d), ok d (c .if-closes .left), (λ i. record { parts = c .args .self .now .counts .parts; joins = pushed d i }));
+      answers = (((omega arith, omega arith, omega arith), (omega (arith, held d), (ok d (c .if-closes .left), tt))), (λ i. record { parts = s .counts .parts; patterns = take (s .counts .patterns) (s .patterns); joins = pushed d i; held = s .counts .held }));
     }

@@ -10,13 +10,14 @@ use Rattle.std.proofs.shelf.Tests.{both-ways}
 use Rattle.giver.proofs.Running.{none-marked}
 use Rattle.sheet.specs.declared.Join.{Join}
 use Rattle.sheet.specs.Joins.{Marked, Settled, none}
-use Rattle.sheet.proofs.Circles.{held-at, held-place, settled-all, settle-fewer, closes-more, mark-keeps, mark-cases}
+use Rattle.sheet.proofs.Holding.{held-at, held-place}
+use Rattle.sheet.proofs.Circles.{settled-all, settle-fewer, closes-more, mark-keeps, mark-cases}
 use Rattle.sheet.proofs.circle.closes.Needs as need
 use Rattle.sheet.proofs.circle.closes.Needs.{In-Some}
 
 -- the parts of the join that was found
 ends : (c : In-Some) → let j = getD (c .args .joins .now) (c .in-Some .k) none in (j .whole < 64) × (j .left < 64) × (j .right < 64)
-ends c = c .pre .0 .1 _ (held-at (c .args .joins .now) (c .args .n) (c .in-Some .k) (omega (arith, c .pre .0 .0, c .told-joins)) (c .in-Some .ensures tt .finds .0))
+ends c = c .pre .0 .1 _ (held-at (c .args .joins .now) (c .args .n) none (omega (arith, c .pre .0 .0, c .told-joins)) (c .in-Some .k) (c .in-Some .ensures tt .finds .0))
 
 pub index-marks-join : need.index-marks-join
 index-marks-join c = ends (need.at·index-marks-join c .In-Some) .1
@@ -49,7 +50,7 @@ loop-k-again c =
     let parts = ends (need.at·loop-k-again c .In-Some) in
     let m₁ = set marks (j .left) true in
     let js = take (c .args .n) joins in
-    let held = held-at joins (c .args .n) (c .in-Some .k) (omega (arith, c .pre .0 .0, c .told-joins)) (found .0) in
+    let held = held-at joins (c .args .n) none (omega (arith, c .pre .0 .0, c .told-joins)) (c .in-Some .k) (found .0) in
     let low : j .left < length marks = omega (arith, parts .1, inv .0) in
     let low′ : j .right < length m₁ = omega (arith, parts .2, inv .0, length-set marks (j .left) true) in
     let from = inv .3 (j .whole) (found .1) in (
@@ -76,7 +77,7 @@ returns c =
     let inv = c .loop-k .inv in
     let js = take (c .args .n) joins in
     let fits : c .args .n ≤ length joins = omega (arith, c .pre .0 .0, c .told-joins) in
-    let settled = λ (j : Join) (has : Has js j). let at = held-place joins (c .args .n) j fits has in subst (Settled marks) (at .2) (c .in-rest .ensures tt .finds (at .0) (at .1)) in
+    let settled = λ (j : Join) (has : Has js j). let at = held-place joins (c .args .n) none fits j has in subst (Settled marks) (at .2) (c .in-rest .ensures tt .finds (at .0) (at .1)) in
     record {
       decides = (
         inv .3 (c .args .x),
