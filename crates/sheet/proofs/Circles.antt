@@ -5,14 +5,14 @@ use mathlib.Core.List.{List, [], _∷_, _++_}
 use mathlib.Core.Logic.{_⊎_, inl, inr, ⊎-elim}
 use Prim.Native.Nat.{ℕ, _+_, _≤_, _<_}
 use native.Mathlib.Omega.{arith}
-use lib.ListN.{length, getD, set, take}
+use lib.ListN.{length, getD, set}
 use Rattle.std.specs.shelf.Lists.{Has, countBy}
 use Rattle.std.proofs.shelf.Lists.{length-set, getD-set-same, getD-set-other}
 use Rattle.std.proofs.shelf.Sums.{sumBy-set}
 use Rattle.std.proofs.shelf.Tests.{cases-eq, cases-bool, both-ways}
-use Rattle.std.proofs.shelf.Elements.{has-append-left, has-push, has-push-cases, has-getD}
+use Rattle.std.proofs.shelf.Elements.{has-append-left, has-push, has-push-cases}
 use Rattle.sheet.specs.declared.Join.{Join}
-use Rattle.sheet.specs.Joins.{Uses, Below, one, more, Acyclic, AtOrBelow, Closes, Marked, Settled, none}
+use Rattle.sheet.specs.Joins.{Uses, Below, one, more, Acyclic, AtOrBelow, Closes, Marked, Settled}
 
 pub nothing-below : {x y : ℕ} → Below [] x y → ⊥
 nothing-below (one u) = omega (arith, u .1 .1)

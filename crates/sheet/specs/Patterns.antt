@@ -1,6 +1,5 @@
 -- Held patterns, and what is asked of the tables that have their rows.
-use mathlib.Core.Path.{_≡_}
-use mathlib.Core.List.{List, [], _∷_, map}
+use mathlib.Core.List.{List}
 use Prim.Native.Nat.{ℕ, _+_, _≤_, _<_}
 use lib.ListN.{length}
 use Rattle.std.specs.shelf.Lists.{Has}
@@ -9,7 +8,6 @@ use Rattle.automaton.specs.declared.Marks.{Marks}
 use Rattle.automaton.specs.declared.State.{State}
 use Rattle.automaton.specs.Automaton.{Automaton, Inside}
 use Rattle.build.specs.declared.Rows.{Rows}
-use Rattle.build.specs.declared.Place.{Place}
 use Rattle.build.specs.Tables.{state-room, arc-room, at}
 use Rattle.sheet.specs.declared.Held.{Held}
 

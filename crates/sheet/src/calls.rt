@@ -100,7 +100,13 @@ impl Sheet {
     }
 
     // Holds a giver's automaton as a pattern of a part, copied behind the held rows.
-    pub fn pattern<A: Alphabet, G: Giver<A>>(&mut self, states: &mut [State], arcs: &mut [Arc<A::Label>], part: usize, giver: &G) -> Result<(), Refusal>
+    pub fn pattern<A: Alphabet, G: Giver<A>>(
+        &mut self,
+        states: &mut [State],
+        arcs: &mut [Arc<A::Label>],
+        part: usize,
+        giver: &G,
+    ) -> Result<(), Refusal>
         ensures answers { λ r. ⌜ PatternAnswer (view (now (self .entry))) (now (states .entry)) (now (arcs .entry)) part (G·Giver .automaton (now (giver .entry))) (view (now (self .exit))) (now (states .exit)) (now (arcs .exit)) r ⌝ }
     {
         if part >= self.counts.parts {

@@ -1,5 +1,5 @@
 // Holding a pattern: a giver's automaton, copied behind the held rows.
-ghost use Prim.Native.Nat.{ℕ, _+_, _≤_, _<_};
+ghost use Prim.Native.Nat.{_+_, _≤_, _<_};
 ghost use mathlib.Core.Path.{_≡_};
 ghost use mathlib.Core.List.{map};
 ghost use lib.ListN.{length, set, take};
@@ -18,7 +18,13 @@ use build::operand::stands;
 use giver::Giver;
 
 // Whether the tables have the held rows, and no held arc leads outside its pattern.
-pub fn whole<L: Copy>(patterns: &[Held; MAX_PATTERNS], n: usize, held: Rows, states: &[State], arcs: &[Arc<L>]) -> bool
+pub fn whole<L: Copy>(
+    patterns: &[Held; MAX_PATTERNS],
+    n: usize,
+    held: Rows,
+    states: &[State],
+    arcs: &[Arc<L>],
+) -> bool
     requires { ⌜ n ≤ 128 ⌝ ∗ ⌜ held .states ≤ 65536 ⌝ ∗ ⌜ held .arcs ≤ 1048576 ⌝ ∗ ⌜ Among held (take n (now patterns)) ⌝ }
     ensures decides { λ r. ⌜ Decides r (Whole (take n (now (patterns .entry))) held (now (states .entry)) (now (arcs .entry))) ⌝ }
 {
@@ -34,7 +40,12 @@ pub fn whole<L: Copy>(patterns: &[Held; MAX_PATTERNS], n: usize, held: Rows, sta
 }
 
 // Whether the automaton fits behind the held rows.
-pub fn fits<A: Alphabet, G: Giver<A>>(states: &[State], arcs: &[Arc<A::Label>], held: Rows, giver: &G) -> bool
+pub fn fits<A: Alphabet, G: Giver<A>>(
+    states: &[State],
+    arcs: &[Arc<A::Label>],
+    held: Rows,
+    giver: &G,
+) -> bool
     ensures decides { λ r. ⌜ Decides r (RoomFor (G·Giver .automaton (now (giver .entry))) held (now (states .entry)) (now (arcs .entry))) ⌝ }
 {
     let state_room = states.len().min(STATE_ROWS);

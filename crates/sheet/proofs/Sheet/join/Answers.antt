@@ -40,8 +40,7 @@ pub ghost-self : need.ghost-self
 ghost-self c =
     let s = c .args .self .now in
     let d = need.at·ghost-self c .After-closes in
-    let known : Known (s .counts .parts) (take (s .counts .joins) (s .joins) ++ c .args .join ∷ []) = λ j has. ⊎-elim (λ old. s .known j old) (λ same. subst (λ i. (i .whole < s .counts .parts) × (i .left < s .counts .parts) × (i .right < s .counts .parts)) same (omega arith, omega arith, omega arith)) (has-push-cases (take (s .counts .joins) (s .joins)) (c .args .join) j has) in
-    (
+    let known : Known (s .counts .parts) (take (s .counts .joins) (s .joins) ++ c .args .join ∷ []) = λ j has. ⊎-elim (λ old. s .known j old) (λ same. subst (λ i. (i .whole < s .counts .parts) × (i .left < s .counts .parts) × (i .right < s .counts .parts)) same (omega arith, omega arith, omega arith)) (has-push-cases (take (s .counts .joins) (s .joins)) (c .args .join) j has) in (
       s .«few_parts»,
       (s .«few_patterns», (omega arith, (s .«few_states», (s .«few_arcs», (s .«long_patterns», (length-set (s .joins) (s .counts .joins) (c .args .join) ∙ s .«long_joins», (s .«for_parts», (s .among, (subst (Known (s .counts .parts)) (sym (pushed d)) known, (subst Acyclic (sym (pushed d)) (ok d (c .if-closes .left)), tt)))))))))),
     )

@@ -3,8 +3,7 @@ use Rattle.sheet.proofs.Sheet.part.Needs as need
 
 pub ghost-self : need.ghost-self
 ghost-self c =
-    let s = c .args .self .now in
-    (
+    let s = c .args .self .now in (
       tt,
       (
         omega arith,

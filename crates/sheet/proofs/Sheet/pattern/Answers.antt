@@ -1,12 +1,9 @@
 use mathlib.Core.Path.{_≡_, refl, sym, subst, _∙_}
-use mathlib.Core.List.{List, [], _∷_, _++_}
-use mathlib.Core.Logic.{⊎-elim}
-use Prim.Native.Nat.{ℕ, _+_, _≤_, _<_}
+use mathlib.Core.List.{[], _∷_, _++_}
+use Prim.Native.Nat.{_+_}
 use native.Mathlib.Omega.{arith}
-use lib.ListN.{length, set, take}
-use Rattle.std.proofs.shelf.Elements.{has-push-cases}
+use lib.ListN.{length, take}
 use Rattle.std.proofs.shelf.Lists.{length-set, length-take-le, take-more-set}
-use Rattle.build.specs.declared.Rows.{Rows}
 use Rattle.sheet.specs.declared.Held.{Held}
 use Rattle.sheet.specs.Patterns.{Among, ForParts}
 use Rattle.sheet.proofs.Holding.{for-parts-and, among-and}
@@ -19,8 +16,7 @@ ghost-self g c =
     let states = c .state-count .ensures .counts-states in
     let arcs = c .arc-count .ensures .counts-arcs in
     let h : Held = record { part = c .args .part; place = record { first = s .counts .held; count = record { states = c .state-count .result; arcs = c .arc-count .result } } } in
-    let pushed = take-more-set (s .patterns) (s .counts .patterns) h (omega (arith, s .«long_patterns»)) in
-    (
+    let pushed = take-more-set (s .patterns) (s .counts .patterns) h (omega (arith, s .«long_patterns»)) in (
       s .«few_parts»,
       (omega arith, (s .«few_joins», (omega (arith, room .states-fit, states), (omega (arith, room .arcs-fit, arcs), (length-set (s .patterns) (s .counts .patterns) h ∙ s .«long_patterns», (s .«long_joins», (subst (ForParts (s .counts .parts)) (sym pushed) (for-parts-and (s .counts .parts) (take (s .counts .patterns) (s .patterns)) h (s .«for_parts») (omega arith)), (subst (Among (record { states = s .counts .held .states + c .state-count .result; arcs = s .counts .held .arcs + c .arc-count .result })) (sym pushed) (among-and (s .counts .held) (take (s .counts .patterns) (s .patterns)) (c .args .part) (c .state-count .result) (c .arc-count .result) (s .among)), (s .known, (s .acyclic, tt)))))))))),
     )

@@ -18,8 +18,7 @@ loop-k-again g c =
     let t = c .loop-k .arcs in
     let kept = c .loop-k .inv .0 in
     let b = c .arc .result in
-    subst (λ u. Kept at (c .args .arcs .now) u × (part u at (k + 1) ≡ take (k + 1) (m .arcs))) (sym (c .put .ensures .writes))
-    (
+    subst (λ u. Kept at (c .args .arcs .now) u × (part u at (k + 1) ≡ take (k + 1) (m .arcs))) (sym (c .put .ensures .writes)) (
       kept-more at (c .args .arcs .now) t _ kept (kept-set at _ t b (omega arith)),
       part-more t at k b (omega (arith, kept .long, c .pre)) ∙ ap (λ l. l ++ b ∷ []) (c .loop-k .inv .1) ∙ ap (λ (x : Arc (g .A·Label .Denot)). take k (m .arcs) ++ x ∷ []) (c .arc .ensures .tells-arc) ∙ sym (take-more (m .arcs) k _ (omega arith)),
     )

@@ -17,8 +17,7 @@ loop-q-again g c =
     let q = c .loop-q .q in
     let t = c .loop-q .states in
     let kept = c .loop-q .inv .0 in
-    let row = plain (c .marks .result) in
-    (
+    let row = plain (c .marks .result) in (
       kept-more at (c .args .states .now) t _ kept (kept-set at _ t row (omega arith)),
       part-more t at q row (omega (arith, kept .long, c .pre)) ∙ ap (λ l. l ++ row ∷ []) (c .loop-q .inv .1) ∙ ap (λ s. map plain (take q (m .states)) ++ plain s ∷ []) (c .marks .ensures .tells-marks) ∙ sym (map-more plain (m .states) q unmarked (omega arith)),
     )

@@ -1,12 +1,11 @@
 use mathlib.Core.Path.{refl, sym, subst}
 use mathlib.Core.Logic.{⊎-elim}
-use Prim.Native.Nat.{_≤_}
 use native.Mathlib.Omega.{arith}
-use lib.ListN.{length, getD}
+use lib.ListN.{getD}
 use Rattle.std.proofs.shelf.Tests.{false≢true, cases-eq}
 use Rattle.std.proofs.shelf.Ways.{not-from-decides}
 use Rattle.automaton.specs.Automaton.{Inside}
-use Rattle.build.specs.Tables.{at, InUse, Stands}
+use Rattle.build.specs.Tables.{at, Stands}
 use Rattle.sheet.specs.Patterns.{nowhere}
 use Rattle.sheet.proofs.Holding.{held-at, held-place}
 use Rattle.sheet.proofs.pattern.whole.Needs as need
