@@ -81,12 +81,6 @@ impl Sheet {
         }
     }
 
-    pub fn counts(&self) -> Counts
-        ensures counted { λ r. ⌜ r ≡ now (self .entry) .counts ⌝ }
-    {
-        self.counts
-    }
-
     // The next part, by its number.
     pub fn part(&mut self) -> Result<usize, Refusal>
         ensures answers { λ r. ⌜ PartAnswer (view (now (self .entry))) (view (now (self .exit))) r ⌝ }

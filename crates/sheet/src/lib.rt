@@ -77,3 +77,11 @@ pub struct Sheet {
     ghost known: { Known (counts .parts) (take (counts .joins) joins) },
     ghost acyclic: { Acyclic (take (counts .joins) joins) },
 }
+
+impl Sheet {
+    pub fn counts(&self) -> Counts
+        ensures counted { λ r. ⌜ r ≡ now (self .entry) .counts ⌝ }
+    {
+        self.counts
+    }
+}
