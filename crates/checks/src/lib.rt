@@ -1,7 +1,9 @@
-// Examples of what the alphabets, the tables, the fixed texts and the products answer.
+// Examples of what the alphabets, the tables, the fixed texts, the builds and the sheets answer.
 
 #[cfg(test)]
 mod builds;
+#[cfg(test)]
+mod sheets;
 
 #[cfg(test)]
 mod labels {

@@ -1,5 +1,6 @@
 // Holds replies, one to a line of standard input, against the weir station's wait, a fixed text, and what the
-// station sends: an optional acknowledgement and then the level.
+// station sends: an optional acknowledgement and then the level. Then enters the bridge station's sheet.
+mod bridge;
 mod lines;
 mod reply;
 mod weir;
@@ -129,6 +130,8 @@ fn run(rt: &LibcRuntime) -> Result<(), AnyError> {
     rt.stdin().read_to_end(&mut input)?;
     let out = record(rt.alloc(), &input)?;
     rt.print(out.as_str())?;
+    let calls = bridge::record(rt.alloc())?;
+    rt.print(calls.as_str())?;
     Ok(())
 }
 
