@@ -23,19 +23,19 @@ returns-then-not-is-whole g c =
     let s = c.args.states.now in
     let e = c.args.arcs.now in
     record {
-      answers = inl (refl, not_from_Decides c.is-whole.result c.is-whole.ensures.decides c.if-not-is-whole.true);
-      only-answer = tt;
-      keeps-held-states = kept_none v.held.states s;
-      keeps-held-arcs = kept_none v.held.arcs e;
+      answers = inl (refl, not_from_Decides c.is_whole.result c.is_whole.ensures.decides c.if-not-is-whole.true);
+      only_answer = tt;
+      keeps_held_states = kept_none v.held.states s;
+      keeps_held_arcs = kept_none v.held.arcs e;
       leaves = (refl, refl, refl, refl);
       reports = tt;
-      reports-exactly = tt;
-      courses-are-exact = courses_exact g.A.Alphabet.labels g.met.A.Alphabet.lawful (room s e) (problem v s e);
-      impossible-means-no-words = tt;
-      possible-words-satisfy = tt;
-      lays-words = tt;
-      unknown-leaves-word-fields-empty = tt;
-      decides-single-use = tt;
+      reports_exactly = tt;
+      courses_are_exact = courses_exact g.A.Alphabet.labels g.met.A.Alphabet.lawful (room s e) (problem v s e);
+      impossible_means_no_words = tt;
+      possible_words_satisfy = tt;
+      lays_words = tt;
+      unknown_leaves_word_fields_empty = tt;
+      decides_single_use = tt;
     }
 
 pub returns-then-report-counts : goal.returns-then-report-counts
@@ -45,18 +45,18 @@ returns-then-report-counts g c =
     let e = c.args.arcs.now in
     record {
       answers = inr (c.if-not-is-whole.ensures.decides.0 refl, inl (refl, λ fits. omega (arith, fits, c.if-report-counts.true, ap (λ x. x.parts) c.counts-counts.ensures.counted)));
-      only-answer = tt;
-      keeps-held-states = kept_none v.held.states s;
-      keeps-held-arcs = kept_none v.held.arcs e;
+      only_answer = tt;
+      keeps_held_states = kept_none v.held.states s;
+      keeps_held_arcs = kept_none v.held.arcs e;
       leaves = (refl, refl, refl, refl);
       reports = tt;
-      reports-exactly = tt;
-      courses-are-exact = courses_exact g.A.Alphabet.labels g.met.A.Alphabet.lawful (room s e) (problem v s e);
-      impossible-means-no-words = tt;
-      possible-words-satisfy = tt;
-      lays-words = tt;
-      unknown-leaves-word-fields-empty = tt;
-      decides-single-use = tt;
+      reports_exactly = tt;
+      courses_are_exact = courses_exact g.A.Alphabet.labels g.met.A.Alphabet.lawful (room s e) (problem v s e);
+      impossible_means_no_words = tt;
+      possible_words_satisfy = tt;
+      lays_words = tt;
+      unknown_leaves_word_fields_empty = tt;
+      decides_single_use = tt;
     }
 
 pub judge-verdict-requires : goal.judge-verdict-requires
@@ -65,16 +65,16 @@ judge-verdict-requires g c =
     let sheet = c.args.sheet.now in
     let v = view sheet in
     let hs = take c.in-Ok.finished.count c.in-Ok.finished.parts in
-    let s = c.finish-all.new.states in
-    let e = c.finish-all.new.arcs in
+    let s = c.finish_all.new.states in
+    let e = c.finish_all.new.arcs in
     let used = c.in-Ok.finished.used in
     let counted = ap (λ x. x.parts) c.counts-counts.ensures.counted in
     let now = ready a g.met.A.Alphabet.lawful v (known sheet) (for_parts sheet) c.args.states.now c.args.arcs.now s e hs used c.in-Ok.ensures.ends.0 in
     let one = subst (λ (n : ℕ). Ready a.admits s e used n v.joins hs) (sym counted) now in
     let joined : Joined v.parts v.joins = record { few_parts = few_parts sheet; few_joins = few_joins sheet; known = known sheet; acyclic = acyclic sheet } in
     let two = subst (λ (n : ℕ). Joined n v.joins) (sym counted) joined in (
-      subst (λ (js : List Join). Ready a.admits s e used c.counts-counts.result.parts js hs) (sym c.joins.ensures.held-joins) one,
-      (subst (Joined c.counts-counts.result.parts) (sym c.joins.ensures.held-joins) two, c.if-report-counts.false),
+      subst (λ (js : List Join). Ready a.admits s e used c.counts-counts.result.parts js hs) (sym c.joins.ensures.held_joins) one,
+      (subst (Joined c.counts-counts.result.parts) (sym c.joins.ensures.held_joins) two, c.if-report-counts.false),
     )
 
 pub returns-in-Ok : goal.returns-in-Ok
@@ -86,8 +86,8 @@ returns-in-Ok g c =
     let s₀ = c.args.states.now in
     let e₀ = c.args.arcs.now in
     let hs = take c.in-Ok.finished.count c.in-Ok.finished.parts in
-    let s = c.finish-all.new.states in
-    let e = c.finish-all.new.arcs in
+    let s = c.finish_all.new.states in
+    let e = c.finish_all.new.arcs in
     let s' = c.judge-verdict.new.states in
     let r = c.args.report.now in
     let r' = c.judge-verdict.new.report in
@@ -97,7 +97,7 @@ returns-in-Ok g c =
     let x = c.judge-verdict.result in
     let counted = ap (λ y. y.parts) c.counts-counts.ensures.counted in
     let held = ap (λ y. y.held) c.counts-counts.ensures.counted in
-    let one = subst (λ (js : List Join). Judges a c.counts-counts.result.parts js hs s s' e r r' ws ws' x) c.joins.ensures.held-joins c.judge-verdict.ensures.judges in
+    let one = subst (λ (js : List Join). Judges a c.counts-counts.result.parts js hs s s' e r r' ws ws' x) c.joins.ensures.held_joins c.judge-verdict.ensures.judges in
     let two = subst (λ (n : ℕ). Judges a n v.joins hs s s' e r r' ws ws' x) counted one in
     let all = judged_answered a laws v (known sheet) (for_parts sheet) s₀ e₀ s e hs used c.in-Ok.ensures.ends.0 s' r r' ws ws' x two in
     let sums = sym (c.totals.ensures.counts ∙ ap (λ (h : Rows). totals h used) held) in
@@ -106,18 +106,18 @@ returns-in-Ok g c =
     let whole = c.if-not-is-whole.ensures.decides.0 refl in
     record {
       answers = ((whole, (omega (arith, c.if-report-counts.false, counted), tt)), done.given);
-      only-answer = only a v s₀ e₀ (length ws) _ whole done.given;
-      keeps-held-states = done.states_kept;
-      keeps-held-arcs = done.arcs_kept;
+      only_answer = only a v s₀ e₀ (length ws) _ whole done.given;
+      keeps_held_states = done.states_kept;
+      keeps_held_arcs = done.arcs_kept;
       leaves = done.leaves;
       reports = done.reports;
-      reports-exactly = done.exactly;
-      courses-are-exact = courses_exact a laws (room s₀ e₀) (problem v s₀ e₀);
-      impossible-means-no-words = done.impossible;
-      possible-words-satisfy = done.satisfies;
-      lays-words = done.lays;
-      unknown-leaves-word-fields-empty = done.no_words;
-      decides-single-use = done.decided;
+      reports_exactly = done.exactly;
+      courses_are_exact = courses_exact a laws (room s₀ e₀) (problem v s₀ e₀);
+      impossible_means_no_words = done.impossible;
+      possible_words_satisfy = done.satisfies;
+      lays_words = done.lays;
+      unknown_leaves_word_fields_empty = done.no_words;
+      decides_single_use = done.decided;
     }
 
 pub returns-in-Err : goal.returns-in-Err
@@ -128,8 +128,8 @@ returns-in-Err g c =
     let v = view sheet in
     let s₀ = c.args.states.now in
     let e₀ = c.args.arcs.now in
-    let s = c.finish-all.new.states in
-    let e = c.finish-all.new.arcs in
+    let s = c.finish_all.new.states in
+    let e = c.finish_all.new.arcs in
     let r = c.args.report.now in
     let ws = c.args.words.now in
     let ended = c.in-Err.ended in
@@ -142,16 +142,16 @@ returns-in-Err g c =
     let whole = c.if-not-is-whole.ensures.decides.0 refl in
     record {
       answers = ((whole, (omega (arith, c.if-report-counts.false, counted), tt)), done.given);
-      only-answer = only a v s₀ e₀ (length ws) c.stopped.result whole done.given;
-      keeps-held-states = done.states_kept;
-      keeps-held-arcs = done.arcs_kept;
+      only_answer = only a v s₀ e₀ (length ws) c.stopped.result whole done.given;
+      keeps_held_states = done.states_kept;
+      keeps_held_arcs = done.arcs_kept;
       leaves = done.leaves;
       reports = done.reports;
-      reports-exactly = done.exactly;
-      courses-are-exact = courses_exact a laws (room s₀ e₀) (problem v s₀ e₀);
-      impossible-means-no-words = done.impossible;
-      possible-words-satisfy = done.satisfies;
-      lays-words = done.lays;
-      unknown-leaves-word-fields-empty = done.no_words;
-      decides-single-use = done.decided;
+      reports_exactly = done.exactly;
+      courses_are_exact = courses_exact a laws (room s₀ e₀) (problem v s₀ e₀);
+      impossible_means_no_words = done.impossible;
+      possible_words_satisfy = done.satisfies;
+      lays_words = done.lays;
+      unknown_leaves_word_fields_empty = done.no_words;
+      decides_single_use = done.decided;
     }

@@ -8,22 +8,22 @@ use Rattle.build.proofs.all_words.all_words.Goals as goal
 
 pub returns-then-used-state-room : goal.returns-then-used-state-room
 returns-then-used-state-room g c =
-    let use' = c.in-use.ensures.decides.0 c.if-not-in-use.false in
+    let use' = c.in_use.ensures.decides.0 c.if-not-in-use.false in
     record {
       answers = inl (use', covers_no_states g.A.Alphabet.labels c.args.used c.args.states.now (omega arith));
-      accepts-every-word = tt;
-      keeps-states = kept_none c.args.used.states c.args.states.now;
-      keeps-arcs = kept_none c.args.used.arcs c.args.arcs.now;
+      accepts_every_word = tt;
+      keeps_states = kept_none c.args.used.states c.args.states.now;
+      keeps_arcs = kept_none c.args.used.arcs c.args.arcs.now;
     }
 
 pub returns-then-used-arc-room : goal.returns-then-used-arc-room
 returns-then-used-arc-room g c =
-    let use' = c.in-use.ensures.decides.0 c.if-not-in-use.false in
+    let use' = c.in_use.ensures.decides.0 c.if-not-in-use.false in
     record {
       answers = inl (use', covers_no_arcs g.A.Alphabet.labels c.args.used c.args.states.now c.args.arcs.now (omega arith) (omega arith));
-      accepts-every-word = tt;
-      keeps-states = kept_none c.args.used.states c.args.states.now;
-      keeps-arcs = kept_none c.args.used.arcs c.args.arcs.now;
+      accepts_every_word = tt;
+      keeps_states = kept_none c.args.used.states c.args.states.now;
+      keeps_arcs = kept_none c.args.used.arcs c.args.arcs.now;
     }
 
 pub returns : goal.returns
@@ -32,13 +32,13 @@ returns g c =
     let used = c.args.used in
     let s = c.args.states.now in
     let arcs = c.args.arcs.now in
-    let use' = c.in-use.ensures.decides.0 c.if-not-in-use.false in
+    let use' = c.in_use.ensures.decides.0 c.if-not-in_use.false in
     let t = set s used.states open_state in
-    let wrote : set arcs used.arcs (loop_arc a) ≡ c.put.new.arcs = ap (λ l. set arcs used.arcs (record { from = 0; label = l; to = 0 })) (sym c.full-label.ensures.is-full) ∙ sym c.put.ensures.writes in
+    let wrote : set arcs used.arcs (loop_arc a) ≡ c.put.new.arcs = ap (λ l. set arcs used.arcs (record { from = 0; label = l; to = 0 })) (sym c.full-label.ensures.is_full) ∙ sym c.put.ensures.writes in
     let built = subst (λ u. Built a (all_words a) used t u (record { first = used; count = record { states = 1; arcs = 1 } })) wrote (covers_built a used s arcs (omega arith) (omega arith)) in
     record {
       answers = inl (use', built);
-      accepts-every-word = covers_exact a g.met.A.Alphabet.lawful used t c.put.new.arcs (record { first = used; count = record { states = 1; arcs = 1 } }) built;
-      keeps-states = kept_set used.states used.states s open_state (omega arith);
-      keeps-arcs = subst (Kept used.arcs arcs) wrote (kept_set used.arcs used.arcs arcs (loop_arc a) (omega arith));
+      accepts_every_word = covers_exact a g.met.A.Alphabet.lawful used t c.put.new.arcs (record { first = used; count = record { states = 1; arcs = 1 } }) built;
+      keeps_states = kept_set used.states used.states s open_state (omega arith);
+      keeps_arcs = subst (Kept used.arcs arcs) wrote (kept_set used.arcs used.arcs arcs (loop_arc a) (omega arith));
     }

@@ -16,7 +16,7 @@ returns-in-err-both g c =
     let e₁ = job.left.count.arcs in
     let e₂ = job.right.count.arcs in
     record {
-      writes = wrote_stopped (concats g.A.Alphabet.labels) (side_of job.left.count.states) (job.left.count.states + job.right.count.states) job c.args.states.now c.args.arcs.now c.first_arcs.new.arcs c.second-arcs.new.arcs (Copied e₁ e₂ (0, 0)) (Copied e₁ e₂ (e₁, 0))
+      writes = wrote_stopped (concats g.A.Alphabet.labels) (side_of job.left.count.states) (job.left.count.states + job.right.count.states) job c.args.states.now c.args.arcs.now c.first_arcs.new.arcs c.second_arcs.new.arcs (Copied e₁ e₂ (0, 0)) (Copied e₁ e₂ (e₁, 0))
           c.in-err-both.field-0.0 c.from-residual-in-err-both.result c.requires c.in-ok-first.ensures.writes.0 c.from-residual-in-err-both.ensures.1 c.in-err-both.ensures.writes;
     }
 
@@ -25,15 +25,15 @@ lead-on-requires g c =
     let job = c.args.job in
     let first = c.in-ok-first.ensures.writes in
     let both = c.in-ok-both.ensures.writes in
-    let kept = kept_more job.used.arcs c.args.arcs.now c.first_arcs.new.arcs c.second-arcs.new.arcs first.0 both.0 in
-    (ready_arcs job c.args.states.now c.args.arcs.now c.second-arcs.new.arcs c.requires kept, both.1)
+    let kept = kept_more job.used.arcs c.args.arcs.now c.first_arcs.new.arcs c.second_arcs.new.arcs first.0 both.0 in
+    (ready_arcs job c.args.states.now c.args.arcs.now c.second_arcs.new.arcs c.requires kept, both.1)
 
 pub returns : goal.returns
 returns g c =
     let job = c.args.job in
     let e₁ = job.left.count.arcs in
     let e₂ = job.right.count.arcs in
-    let first = c.in-ok-first.ensures.writes in
-    let both = c.in-ok-both.ensures.writes in
-    let kept = kept_more job.used.arcs c.args.arcs.now c.first_arcs.new.arcs c.second-arcs.new.arcs first.0 both.0 in
-    record { writes = wrote_after (concats g.A.Alphabet.labels) (side_of job.left.count.states) (job.left.count.states + job.right.count.states) job c.args.states.now c.args.arcs.now c.second-arcs.new.arcs c.lead-on.new.arcs (Copied e₁ e₂ (e₁, 0)) c.lead-on.result c.requires kept c.lead-on.ensures.writes }
+    let first = c.in_ok-first.ensures.writes in
+    let both = c.in_ok-both.ensures.writes in
+    let kept = kept_more job.used.arcs c.args.arcs.now c.first_arcs.new.arcs c.second_arcs.new.arcs first.0 both.0 in
+    record { writes = wrote_after (concats g.A.Alphabet.labels) (side_of job.left.count.states) (job.left.count.states + job.right.count.states) job c.args.states.now c.args.arcs.now c.second_arcs.new.arcs c.lead_on.new.arcs (Copied e₁ e₂ (e₁, 0)) c.lead_on.result c.requires kept c.lead_on.ensures.writes }

@@ -15,9 +15,9 @@ returns g c =
     let built = c.build.ensures in
     record {
       answers = inl (ready, built.builds);
-      accepts-in-turn = built_concat_exact a (left_of job s arcs) (right_of job s arcs) job.used c.build.new.states c.build.new.arcs c.build.result built.builds;
+      accepts_in_turn = built_concat_exact a (left_of job s arcs) (right_of job s arcs) job.used c.build.new.states c.build.new.arcs c.build.result built.builds;
       sizes = built_concat_sizes a (left_of job s arcs) (right_of job s arcs) job.used c.build.new.states c.build.new.arcs c.build.result built.builds;
-      counted-sizes = built_sizes a (concat_of a job s arcs) job.used c.build.new.states c.build.new.arcs c.build.result built.builds;
-      keeps-states = built.keeps-states;
-      keeps-arcs = built.keeps-arcs;
+      counted_sizes = built_sizes a (concat_of a job s arcs) job.used c.build.new.states c.build.new.arcs c.build.result built.builds;
+      keeps_states = built.keeps_states;
+      keeps_arcs = built.keeps_arcs;
     }

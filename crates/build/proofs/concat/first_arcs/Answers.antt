@@ -37,7 +37,7 @@ loop-k-preserved g c =
     let t = c.loop-k.arcs in
     let kept = c.loop-k.invariant.0 in
     let ready = ready_arcs job s c.args.arcs.now t c.requires kept in
-    let new = pushed_first a job s t c.push.new.arcs ready c.loop-k.written _ (Ok c.in-ok-written.written) c.in-ok-written.ensures.pushes c.loop-k.k c.loop-k-test.true (c.from.ensures.reads (blank g)) (c.label.ensures.reads (blank g)) (c.to.ensures.reads (blank g)) c.loop-k.invariant.1 in
+    let new = pushed_first a job s t c.push.new.arcs ready c.loop-k.written _ (Ok c.in_ok-written.written) c.in_ok-written.ensures.pushes c.loop-k.k c.loop-k-test.true (c.from.ensures.reads (blank g)) (c.label.ensures.reads (blank g)) (c.to.ensures.reads (blank g)) c.loop-k.invariant.1 in
     (kept_more job.used.arcs c.args.arcs.now t c.push.new.arcs kept new.0, new.1)
 
 pub returns : goal.returns

@@ -18,4 +18,4 @@ loop-p-preserved c =
     )
 
 pub returns : goal.returns
-returns c = record { keeps = c.loop-p.invariant.0; marks-them = λ i low. c.loop-p.invariant.1 i (omega arith) }
+returns c = record { keeps = c.loop-p.invariant.0; marks_them = λ i low. c.loop-p.invariant.1 i (omega arith) }

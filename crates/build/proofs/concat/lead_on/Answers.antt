@@ -12,7 +12,7 @@ use Rattle.build.proofs.Joining.{led_skip}
 use Rattle.build.proofs.Keeping.{kept_more}
 use Rattle.build.proofs.concat.lead_on.Given as given
 use Rattle.build.proofs.concat.lead_on.Goals as goal
-use Rattle.build.proofs.concat.lead_on.Goals.{then-marks+in-ok-written, else-marks}
+use Rattle.build.proofs.concat.lead_on.Goals.{then-marks+in_ok-written, else-marks}
 
 abbrev blank : (g : given.Over) → Arc g.row.A-Label.Denot
 blank g = record { from = 0; label = g.A.Alphabet.labels.full; to = 0 }
@@ -21,7 +21,7 @@ pub marks-requires : goal.marks-requires
 marks-requires g c =
     let job = c.args.job in
     let t = c.loop-x.arcs in
-    let ready = ready_arcs job c.args.states.now c.args.arcs.now t c.requires.0 c.loop-x.invariant.0 in
+    let ready = ready_arcs job c.args.states.now c.args.arcs.now t c.requires.ready c.loop-x.invariant.0 in
     let ends = arc_inside g.A.Alphabet.labels c.args.states.now t job.used job.left ready.in_use ready.left c.loop-x.x c.loop-x-test.true in
     (omega (arith, ready.left.lies.states, ready.in_use.states_fit), omega (arith, ends.1, c.to.ensures.reads (blank g)))
 
@@ -39,7 +39,7 @@ returns-in-err-written g c =
     let e₁ = job.left.count.arcs in
     let e₂ = job.right.count.arcs in
     record {
-      writes = wrote_stopped (concats g.A.Alphabet.labels) (side_of job.left.count.states) (job.left.count.states + job.right.count.states) job c.args.states.now c.args.arcs.now c.loop-x.arcs c.lead-on-from.new.arcs (Copied e₁ e₂ (c.loop-x.x + 1, 0)) (Copied e₁ e₂ (e₁, 0))
+      writes = wrote_stopped (concats g.A.Alphabet.labels) (side_of job.left.count.states) (job.left.count.states + job.right.count.states) job c.args.states.now c.args.arcs.now c.loop-x.arcs c.lead_on_from.new.arcs (Copied e₁ e₂ (c.loop-x.x + 1, 0)) (Copied e₁ e₂ (e₁, 0))
           c.in-err-written.field-0.0 c.from-residual.result c.requires.0 c.loop-x.invariant.0 c.from-residual.ensures.1 c.in-err-written.ensures.writes;
     }
 
@@ -54,9 +54,9 @@ loop-x-preserved g c =
     let kept = c.loop-x.invariant.0 in
     let next = λ (u : List (Arc g.row.A-Label.Denot)) (m : ℕ). Kept job.used.arcs arcs u × Written (concats a) (side_of job.left.count.states) (job.left.count.states + job.right.count.states) job s u m (Copied job.left.count.arcs job.right.count.arcs (x + 1, 0)) in
     elim c.if-marks.branch [
-      | then-marks+in-ok-written w ↦
-          (let new = w.in-ok-written.ensures.writes in
-          subst₂ next (sym w.arcs-is) (sym w.written-is) (kept_more job.used.arcs arcs t w.lead-on-from.new.arcs kept new.0, new.1))
+      | then-marks+in_ok-written w ↦
+          (let new = w.in_ok-written.ensures.writes in
+          subst₂ next (sym w.arcs-is) (sym w.written-is) (kept_more job.used.arcs arcs t w.lead_on_from.new.arcs kept new.0, new.1))
       | else-marks w ↦
           subst₂ next (sym w.arcs-is) (sym w.written-is)
           (kept, led_skip a job s t c.loop-x.written x (λ enters. both_ways _ w.if-marks.false (ap (λ m. m.accepting) c.marks.ensures.reads ∙ ap (λ q. (marks_in s job.left q).accepting) (c.to.ensures.reads (blank g)) ∙ enters)) c.loop-x.invariant.1)

@@ -10,7 +10,7 @@ use Rattle.build.proofs.Joining.{pushed_led, enters_still, led_pass, led_end}
 use Rattle.build.proofs.Keeping.{kept_more}
 use Rattle.build.proofs.concat.lead_on_from.Given as given
 use Rattle.build.proofs.concat.lead_on_from.Goals as goal
-use Rattle.build.proofs.concat.lead_on_from.Goals.{then-marks+in-ok-written, else-marks}
+use Rattle.build.proofs.concat.lead_on_from.Goals.{then-marks+in_ok-written, else-marks}
 
 abbrev blank : (g : given.Over) → Arc g.row.A-Label.Denot
 blank g = record { from = 0; label = g.A.Alphabet.labels.full; to = 0 }
@@ -45,13 +45,13 @@ loop-q-preserved g c =
     let e₁ = job.left.count.arcs in
     let e₂ = job.right.count.arcs in
     let kept = c.loop-q.invariant.0 in
-    let ready = ready_arcs job s arcs t c.requires.0.0 kept in
+    let ready = ready_arcs job s arcs t c.requires.ready.0 kept in
     let d = blank g in
     let next = λ (u : List (Arc g.row.A-Label.Denot)) (m : ℕ). Kept job.used.arcs arcs u × Written (concats a) (side_of job.left.count.states) (job.left.count.states + job.right.count.states) job s u m (Copied e₁ e₂ (x, q + 1)) in
     elim c.if-marks.branch [
-      | then-marks+in-ok-written w ↦
-          (let enters = enters_still a job s arcs t c.requires.0.0 kept x c.requires.0.1.1 in
-          let new = pushed_led a job s t w.push.new.arcs ready c.loop-q.written _ (Ok w.in-ok-written.written) w.in-ok-written.ensures.pushes x q c.requires.0.1.0 c.loop-q-test.true enters (ap (λ m. m.initial) (sym c.marks.ensures.reads) ∙ w.if-marks.true) (w.from.ensures.reads d) (w.label.ensures.reads d) refl c.loop-q.invariant.1 in
+      | then-marks+in_ok-written w ↦
+          (let enters = enters_still a job s arcs t c.requires.ready.0 kept x c.requires.ready.1.1 in
+          let new = pushed_led a job s t w.push.new.arcs ready c.loop-q.written _ (Ok w.in_ok-written.written) w.in_ok-written.ensures.pushes x q c.requires.ready.1.0 c.loop-q-test.true enters (ap (λ m. m.initial) (sym c.marks.ensures.reads) ∙ w.if-marks.true) (w.from.ensures.reads d) (w.label.ensures.reads d) refl c.loop-q.invariant.1 in
           subst₂ next (sym w.arcs-is) (sym w.written-is) (kept_more job.used.arcs arcs t w.push.new.arcs kept new.0, new.1))
       | else-marks w ↦
           subst₂ next (sym w.arcs-is) (sym w.written-is)
@@ -65,5 +65,5 @@ returns g c =
     let s = c.args.states.now in
     let t = c.loop-q.arcs in
     let kept = c.loop-q.invariant.0 in
-    let ready = ready_arcs job s c.args.arcs.now t c.requires.0.0 kept in
+    let ready = ready_arcs job s c.args.arcs.now t c.requires.ready.0 kept in
     record { writes = (kept, led_end a job s t ready c.loop-q.written c.args.x c.loop-q.q c.loop-q-test.false c.loop-q.invariant.1) }

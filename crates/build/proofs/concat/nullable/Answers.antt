@@ -8,7 +8,7 @@ pub loop-q-preserved : goal.loop-q-preserved
 loop-q-preserved c = λ r low yes' acc.
     ⊎_elim
     (λ same.
-    let here = c.marks_at.ensures.reads ∙ ap (marks_in c.args.states.now c.args.p) (sym same) in
+    let here = c.marks-at.ensures.reads ∙ ap (marks_in c.args.states.now c.args.p) (sym same) in
     elim c.else-at.branch [
       | else-at-via-then-at+else-at-2 w ↦ both_ways _ w.if-at-2.false (ap (λ m. m.accepting) here ∙ acc)
       | else-at-via-else-at w ↦ both_ways _ w.if-at.false (ap (λ m. m.initial) here ∙ yes')

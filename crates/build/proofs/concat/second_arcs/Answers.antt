@@ -14,7 +14,7 @@ abbrev blank : (g : given.Over) → Arc g.row.A-Label.Denot
 blank g = record { from = 0; label = g.A.Alphabet.labels.full; to = 0 }
 
 pub loop-k-init : goal.loop-k-init
-loop-k-init g c = (kept_none c.args.job.used.arcs c.args.arcs.now, c.requires.1)
+loop-k-init g c = (kept_none c.args.job.used.arcs c.args.arcs.now, c.requires.written)
 
 pub returns-in-err-written : goal.returns-in-err-written
 returns-in-err-written g c =
@@ -37,8 +37,8 @@ loop-k-preserved g c =
     let s = c.args.states.now in
     let t = c.loop-k.arcs in
     let kept = c.loop-k.invariant.0 in
-    let ready = ready_arcs job s c.args.arcs.now t c.requires.0 kept in
-    let new = pushed_second a job s t c.push.new.arcs ready c.loop-k.written _ (Ok c.in-ok-written.written) c.in-ok-written.ensures.pushes c.loop-k.k c.loop-k-test.true (ap (λ i. job.left.count.states + i) (c.from.ensures.reads (blank g))) (c.label.ensures.reads (blank g)) (ap (λ i. job.left.count.states + i) (c.to.ensures.reads (blank g))) c.loop-k.invariant.1 in
+    let ready = ready_arcs job s c.args.arcs.now t c.requires.ready kept in
+    let new = pushed_second a job s t c.push.new.arcs ready c.loop-k.written _ (Ok c.in_ok-written.written) c.in_ok-written.ensures.pushes c.loop-k.k c.loop-k-test.true (ap (λ i. job.left.count.states + i) (c.from.ensures.reads (blank g))) (c.label.ensures.reads (blank g)) (ap (λ i. job.left.count.states + i) (c.to.ensures.reads (blank g))) c.loop-k.invariant.1 in
     (kept_more job.used.arcs c.args.arcs.now t c.push.new.arcs kept new.0, new.1)
 
 pub returns : goal.returns

@@ -15,8 +15,8 @@ loop-q-preserved c =
     let kept = c.loop-q.invariant.0 in (
       kept_more u s t _ kept (kept_set u _ t c.row.result (omega arith)),
       marked_more u q t (λ i. second_marks c.args.nullable (marks_in s job.right i)) c.row.result (omega (arith, c.requires.1, kept.long))
-          (ap (λ r. r.marks) c.row.ensures.marked ∙ ap (second_marks c.args.nullable) (c.marks_at.ensures.reads ∙ marks_kept u s t job.right q kept (omega (arith, c.requires.0)))) c.loop-q.invariant.1,
+          (ap (λ r. r.marks) c.row.ensures.marked ∙ ap (second_marks c.args.nullable) (c.marks-at.ensures.reads ∙ marks_kept u s t job.right q kept (omega (arith, c.requires.0)))) c.loop-q.invariant.1,
     )
 
 pub returns : goal.returns
-returns c = record { keeps = c.loop-q.invariant.0; marks-them = λ i low. c.loop-q.invariant.1 i (omega arith) }
+returns c = record { keeps = c.loop-q.invariant.0; marks_them = λ i low. c.loop-q.invariant.1 i (omega arith) }

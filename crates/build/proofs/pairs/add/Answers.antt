@@ -33,5 +33,5 @@ returns g c =
     let made : row_of a job arcs s c.args.p c.args.q ≡ c.row.result = λ i. record { marks = sym c.row.ensures.marked i; left = sym c.row.ensures.paired.0 i; right = sym c.row.ensures.paired.1 i } in
     record {
       adds = subst (λ (r : State). let t = set s (job.used.states + n) r in Sofar a job arcs t (n + 1) × Grown job s t n (n + 1) × Has (pairs job t (n + 1)) (c.args.p, c.args.q)) made
-          (sofar_add a job arcs s n c.args.p c.args.q c.requires.0.0 c.requires.0.1 c.requires.1 (missing _ _ c.find.result c.find.ensures.finds (sym c.if-is-some.ensures)) (omega arith));
+          (sofar_add a job arcs s n c.args.p c.args.q c.requires.ready.0 c.requires.ready.1 c.requires.fact (missing _ _ c.find.result c.find.ensures.finds (sym c.if-is_some.ensures)) (omega arith));
     }

@@ -5,7 +5,7 @@ use Rattle.automaton.specs.Automaton.{initial}
 use Rattle.build.specs.Pairs.{pairs, left_of, right_of, Extended, BegunAt, Begun}
 use Rattle.build.proofs.Exploring.{BegunTo, ready_kept, left_kept, right_kept, sofar_none, states_count, extended_none, extended_ok, extended_then, stopped_by}
 use Rattle.build.proofs.pairs.begin.Goals as goal
-use Rattle.build.proofs.pairs.begin.Goals.{then-marks+in-ok-built, else-marks}
+use Rattle.build.proofs.pairs.begin.Goals.{then-marks+in_ok-built, else-marks}
 
 pub begin-at-requires : goal.begin-at-requires
 begin-at-requires g c =
@@ -21,7 +21,7 @@ returns-in-err-built g c =
     let s = c.args.states.now in
     let t = c.loop-p.states in
     record {
-      begins = stopped_by g.A.Alphabet.labels job arcs s t c.begin-at.new.states 0 c.loop-p.built (BegunAt (right_of job t arcs) c.loop-p.p) (Begun (left_of job s arcs) (right_of job s arcs))
+      begins = stopped_by g.A.Alphabet.labels job arcs s t c.begin_at.new.states 0 c.loop-p.built (BegunAt (right_of job t arcs) c.loop-p.p) (Begun (left_of job s arcs) (right_of job s arcs))
           c.in-err-built.field-0.0 c.from-residual.result c.requires c.loop-p.invariant.1.kept c.from-residual.ensures.1 c.in-err-built.ensures.begins;
     }
 
@@ -38,14 +38,14 @@ loop-p-preserved g c =
     let kept = c.loop-p.invariant.1.kept in
     let next = λ (u : List State) (m : ℕ). Extended a job arcs s u 0 (BegunTo left right (p + 1)) (Ok m) in
     elim c.if-marks.branch [
-      | then-marks+in-ok-built w ↦
+      | then-marks+in_ok-built w ↦
           subst₂ next (sym w.states-is) (sym w.built-is)
-          (extended_then a job arcs s t w.begin-at.new.states 0 c.loop-p.built w.in-ok-built.built (BegunTo left right p) (BegunAt (right_of job t arcs) p) (BegunTo left right (p + 1))
+          (extended_then a job arcs s t w.begin_at.new.states 0 c.loop-p.built w.in_ok-built.built (BegunTo left right p) (BegunAt (right_of job t arcs) p) (BegunTo left right (p + 1))
           (λ more before new r low yes'.
           ⊎_elim
-          (λ same. subst (λ x. BegunAt right x (pairs job w.begin-at.new.states w.in-ok-built.built)) (sym same) (subst (λ k. BegunAt k p (pairs job w.begin-at.new.states w.in-ok-built.built)) (right_kept a job arcs s t c.requires kept) new))
+          (λ same. subst (λ x. BegunAt right x (pairs job w.begin_at.new.states w.in_ok-built.built)) (sym same) (subst (λ k. BegunAt k p (pairs job w.begin_at.new.states w.in_ok-built.built)) (right_kept a job arcs s t c.requires kept) new))
           (λ other q qlow qyes. more _ (before r (omega arith) yes' q qlow qyes)) (cases_eq r p))
-          c.loop-p.invariant w.in-ok-built.ensures.begins)
+          c.loop-p.invariant w.in_ok-built.ensures.begins)
       | else-marks w ↦
           subst₂ next (sym w.states-is) (sym w.built-is)
           (extended_ok a job arcs s t 0 c.loop-p.built (BegunTo left right p) (BegunTo left right (p + 1))

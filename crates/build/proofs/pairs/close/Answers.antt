@@ -34,7 +34,7 @@ returns-in-err-built g c =
     let t = c.loop-i.states in
     let row = get_or t (job.used.states + c.loop-i.i) blank in
     record {
-      closes = stopped_by a job arcs s t c.close-at.new.states c.args.n c.loop-i.built (ClosedAt a (left_of job t arcs) (right_of job t arcs) (row.left, row.right)) (Closed a (left_of job s arcs) (right_of job s arcs))
+      closes = stopped_by a job arcs s t c.close_at.new.states c.args.n c.loop-i.built (ClosedAt a (left_of job t arcs) (right_of job t arcs) (row.left, row.right)) (Closed a (left_of job s arcs) (right_of job s arcs))
           c.in-err-built.field-0.0 c.from-residual.result c.requires.0 c.loop-i.invariant.0.1.kept c.from-residual.ensures.1 c.in-err-built.ensures.closes;
     }
 
@@ -45,14 +45,14 @@ loop-i-preserved g c =
     let arcs = c.args.arcs.now in
     let s = c.args.states.now in
     let t = c.loop-i.states in
-    let u = c.close-at.new.states in
+    let u = c.close_at.new.states in
     let so = c.loop-i.invariant.0 in
     let i = c.loop-i.i in
     let m = c.loop-i.built in
-    let k = c.in-ok-built.built in
+    let k = c.in_ok-built.built in
     let fits : job.used.states + m ≤ length t = omega (arith, so.0.room) in
     let row = get_or t (job.used.states + i) blank in
-    let new = c.in-ok-built.ensures.closes in
+    let new = c.in_ok-built.ensures.closes in
     let more = ap length new.1.more ∙ length-append (pairs job t m) new.1.added in
     let long = length_pairs job t m fits in
     let long' = length_pairs job u k (omega (arith, new.0.room)) in

@@ -7,7 +7,7 @@ use Rattle.automaton.specs.Nfa.{Reachable, rows}
 use Rattle.build.specs.Pairs.{pairs, left_of, right_of, Extended, ClosedBy, ClosedAt}
 use Rattle.build.proofs.Exploring.{ClosedTo, ready_kept, operands_kept, arcs_count, extended_none, extended_ok, extended_then, stopped_by}
 use Rattle.build.proofs.pairs.close_at.Goals as goal
-use Rattle.build.proofs.pairs.close_at.Goals.{then-from-p+in-ok-built, else-from-p}
+use Rattle.build.proofs.pairs.close_at.Goals.{then-from-p+in_ok-built, else-from-p}
 
 pub close-by-requires : goal.close-by-requires
 close-by-requires g c =
@@ -31,7 +31,7 @@ returns-in-err-built g c =
     let s = c.args.states.now in
     let t = c.loop-x.states in
     record {
-      closes = stopped_by a job arcs s t c.close-by.new.states c.args.n c.loop-x.built (ClosedBy a (left_of job t arcs) (right_of job t arcs) c.loop-x.x c.args.q) (ClosedAt a (left_of job s arcs) (right_of job s arcs) (c.args.p, c.args.q))
+      closes = stopped_by a job arcs s t c.close_by.new.states c.args.n c.loop-x.built (ClosedBy a (left_of job t arcs) (right_of job t arcs) c.loop-x.x c.args.q) (ClosedAt a (left_of job s arcs) (right_of job s arcs) (c.args.p, c.args.q))
           c.in-err-built.field-0.0 c.from-residual.result c.requires.0.0 c.loop-x.invariant.1.kept c.from-residual.ensures.1 c.in-err-built.ensures.closes;
     }
 
@@ -50,14 +50,14 @@ loop-x-preserved g c =
     let d : Arc g.row.A-Label.Denot = record { from = 0; label = a.full; to = 0 } in
     let next = λ (u : List State) (m : ℕ). Extended a job arcs s u n (so (x + 1)) (Ok m) in
     elim c.if-from-p.branch [
-      | then-from-p+in-ok-built w ↦
+      | then-from-p+in_ok-built w ↦
           subst₂ next (sym w.states-is) (sym w.built-is)
-          (extended_then a job arcs s t w.close-by.new.states n c.loop-x.built w.in-ok-built.built (so x) (ClosedBy a (left_of job t arcs) (right_of job t arcs) x c.args.q) (so (x + 1))
+          (extended_then a job arcs s t w.close_by.new.states n c.loop-x.built w.in_ok-built.built (so x) (ClosedBy a (left_of job t arcs) (right_of job t arcs) x c.args.q) (so (x + 1))
           (λ more before new z low from.
           ⊎_elim
-          (λ same. subst (λ e. ClosedBy a left right e c.args.q (pairs job w.close-by.new.states w.in-ok-built.built)) (sym same) new)
+          (λ same. subst (λ e. ClosedBy a left right e c.args.q (pairs job w.close_by.new.states w.in_ok-built.built)) (sym same) new)
           (λ other y ylow yfrom meets. more _ (before z (omega arith) from y ylow yfrom meets)) (cases_eq z x))
-          c.loop-x.invariant w.in-ok-built.ensures.closes)
+          c.loop-x.invariant w.in_ok-built.ensures.closes)
       | else-from-p w ↦
           subst₂ next (sym w.states-is) (sym w.built-is)
           (extended_ok a job arcs s t n c.loop-x.built (so x) (so (x + 1))
@@ -74,7 +74,7 @@ loop-x-init g c =
     let job = c.args.job in
     let arcs = c.args.arcs.now in
     let s = c.args.states.now in
-    extended_none a job arcs s c.args.n (ClosedTo a (left_of job s arcs) (right_of job s arcs) (c.args.p, c.args.q) 0) c.requires.0.1 (λ z low. absurd (omega arith))
+    extended_none a job arcs s c.args.n (ClosedTo a (left_of job s arcs) (right_of job s arcs) (c.args.p, c.args.q) 0) c.requires.ready.1 (λ z low. absurd (omega arith))
 
 pub returns : goal.returns
 returns g c =
@@ -86,5 +86,5 @@ returns g c =
     let right = right_of job s arcs in
     record {
       closes = extended_ok a job arcs s c.loop-x.states c.args.n c.loop-x.built (ClosedTo a left right (c.args.p, c.args.q) c.loop-x.x) (ClosedAt a left right (c.args.p, c.args.q))
-          (λ all x low. all x (omega (arith, arcs_count s arcs job.used job.left c.requires.0.0.in_use c.requires.0.0.left))) c.loop-x.invariant;
+          (λ all x low. all x (omega (arith, arcs_count s arcs job.used job.left c.requires.ready.0.in_use c.requires.ready.0.left))) c.loop-x.invariant;
     }

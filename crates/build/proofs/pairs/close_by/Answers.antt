@@ -9,7 +9,7 @@ use Rattle.build.specs.Pairs.{pairs, left_of, right_of, Extended, ClosedBy}
 use Rattle.build.specs.Tables.{arc_in}
 use Rattle.build.proofs.Exploring.{ClosedBelow, ready_kept, operands_kept, arc_inside, arcs_count, extended_none, extended_ok, extended_then, stopped_by}
 use Rattle.build.proofs.pairs.close_by.Goals as goal
-use Rattle.build.proofs.pairs.close_by.Goals.{then-from-q+then-meets+in-ok-built, else-from-q, else-from-q-via-then-from-q+else-meets, else-from-q-via-else-from-q}
+use Rattle.build.proofs.pairs.close_by.Goals.{then-from-q+then-meets+in_ok-built, else-from-q, else-from-q-via-then-from-q+else-meets, else-from-q-via-else-from-q}
 
 pub add-requires : goal.add-requires
 add-requires g c =
@@ -21,16 +21,16 @@ add-requires g c =
     let x = c.args.x in
     let y = c.loop-y.y in
     let kept = c.loop-y.invariant.1.kept in
-    let ready = ready_kept a job arcs s t c.requires.0.0 kept in
-    let source = operands_kept a job arcs s t c.requires.0.0 kept (λ m k. Reachable a (rows a m) (rows a k) (arc_in a arcs job.left x).from c.args.q) c.requires.1.1 in
+    let ready = ready_kept a job arcs s t c.requires.ready.0 kept in
+    let source = operands_kept a job arcs s t c.requires.ready.0 kept (λ m k. Reachable a (rows a m) (rows a k) (arc_in a arcs job.left x).from c.args.q) c.requires.x_lt_arcs.1 in
     let d : Arc g.row.A-Label.Denot = record { from = 0; label = a.full; to = 0 } in
-    let left = arc_inside a t arcs job.used job.left ready.in_use ready.left x c.requires.1.0 in
-    let right = arc_inside a t arcs job.used job.right ready.in_use ready.right y c.loop-y-test.true in (
-      (ready, c.loop-y.invariant.0),
-      go x y source (omega (arith, arcs_count t arcs job.used job.left ready.in_use ready.left, c.requires.1.0)) (omega (arith, arcs_count t arcs job.used job.right ready.in_use ready.right, c.loop-y-test.true))
-          refl (sym (c.from.ensures.reads d) ∙ c.if-from-q.true) (sym c.if-meets.ensures.decides) (sym (c.to-p.ensures.reads d)) (sym (c.to.ensures.reads d)),
-      (omega (arith, left.1, c.to-p.ensures.reads d), omega (arith, right.1, c.to.ensures.reads d)),
-    )
+    let left = arc_inside a t arcs job.used job.left ready.in_use ready.left x c.requires.x_lt_arcs.0 in
+    let right = arc_inside a t arcs job.used job.right ready.in_use ready.right y c.loop-y-test.true in (record {
+      ready = (ready, c.loop-y.invariant.0);
+      fact = go x y source (omega (arith, arcs_count t arcs job.used job.left ready.in_use ready.left, c.requires.x_lt_arcs.0)) (omega (arith, arcs_count t arcs job.used job.right ready.in_use ready.right, c.loop-y-test.true))
+          refl (sym (c.from.ensures.reads d) ∙ c.if-from-q.true) (sym c.if-meets.ensures.decides) (sym (c.to-p.ensures.reads d)) (sym (c.to.ensures.reads d));
+      p_lt_states = (omega (arith, left.1, c.to-p.ensures.reads d), omega (arith, right.1, c.to.ensures.reads d));
+    })
 
 pub returns-in-err-built : goal.returns-in-err-built
 returns-in-err-built g c =
@@ -66,16 +66,16 @@ loop-y-preserved g c =
     (λ other. before z (omega arith) from meets) (cases_eq z y))
     c.loop-y.invariant in
     elim c.if-from-q.branch [
-      | then-from-q+then-meets+in-ok-built w ↦
+      | then-from-q+then-meets+in_ok-built w ↦
           subst₂ next (sym w.states-is) (sym w.built-is)
-          (extended_then a job arcs s t w.add.new.states n c.loop-y.built w.in-ok-built.built (so y) (λ ps. Has ps (c.to-p.result, w.to.result)) (so (y + 1))
+          (extended_then a job arcs s t w.add.new.states n c.loop-y.built w.in_ok-built.built (so y) (λ ps. Has ps (c.to-p.result, w.to.result)) (so (y + 1))
           (λ more before new z low from meets.
           ⊎_elim
           (λ same.
           let here : (c.to-p.result, w.to.result) ≡ ((arc_at a left x).to, (arc_at a right z).to) = λ i. (c.to-p.ensures.reads d i, (w.to.ensures.reads d ∙ ap (λ j. (arc_at a right j).to) (sym same)) i) in
-          subst (Has (pairs job w.add.new.states w.in-ok-built.built)) here new)
+          subst (Has (pairs job w.add.new.states w.in_ok-built.built)) here new)
           (λ other. more _ (before z (omega arith) from meets)) (cases_eq z y))
-          c.loop-y.invariant w.in-ok-built.ensures.adds)
+          c.loop-y.invariant w.in_ok-built.ensures.adds)
       | else-from-q w ↦
           subst₂ next (sym w.states-is) (sym w.built-is)
           (elim w.else-from-q.branch [
@@ -90,7 +90,7 @@ loop-y-init g c =
     let arcs = c.args.arcs.now in
     let s = c.args.states.now in
     let a = g.A.Alphabet.labels in
-    extended_none a job arcs s c.args.n (ClosedBelow a (left_of job s arcs) (right_of job s arcs) c.args.x c.args.q 0) c.requires.0.1 (λ z low. absurd (omega arith))
+    extended_none a job arcs s c.args.n (ClosedBelow a (left_of job s arcs) (right_of job s arcs) c.args.x c.args.q 0) c.requires.ready.1 (λ z low. absurd (omega arith))
 
 pub returns : goal.returns
 returns g c =
@@ -102,5 +102,5 @@ returns g c =
     let right = right_of job s arcs in
     record {
       closes = extended_ok a job arcs s c.loop-y.states c.args.n c.loop-y.built (ClosedBelow a left right c.args.x c.args.q c.loop-y.y) (ClosedBy a left right c.args.x c.args.q)
-          (λ all y low. all y (omega (arith, arcs_count s arcs job.used job.right c.requires.0.0.in_use c.requires.0.0.right))) c.loop-y.invariant;
+          (λ all y low. all y (omega (arith, arcs_count s arcs job.used job.right c.requires.ready.0.in_use c.requires.ready.0.right))) c.loop-y.invariant;
     }

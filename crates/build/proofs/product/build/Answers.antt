@@ -9,7 +9,7 @@ use Rattle.build.proofs.product.build.Goals as goal
 pub emit-requires : goal.emit-requires
 emit-requires g c =
     let arcs = c.args.arcs.now in
-    paired g.A.Alphabet.labels c.args.job c.args.states.now c.explore.new.states arcs arcs c.in-ok-n.n c.requires c.in-ok-n.ensures.explores
+    paired g.A.Alphabet.labels c.args.job c.args.states.now c.explore.new.states arcs arcs c.in_ok-n.n c.requires c.in_ok-n.ensures.explores
 
 pub returns-in-err-n : goal.returns-in-err-n
 returns-in-err-n g c =
@@ -18,7 +18,7 @@ returns-in-err-n g c =
     let arcs = c.args.arcs.now in
     let s = c.args.states.now in
     let stop = explore_stopped a job s c.explore.new.states arcs arcs (λ ps. Numbers (product_of a job s arcs).State (length ps) (λ i. get_or ps i (0, 0))) c.in-err-n.field-0.0 c.from-residual.result c.from-residual.ensures.1 c.in-err-n.ensures.explores in
-    record { builds = stop.0; keeps-states = stop.1; keeps-arcs = kept_none job.used.arcs arcs }
+    record { builds = stop.0; keeps_states = stop.1; keeps_arcs = kept_none job.used.arcs arcs }
 
 pub returns-in-err-e : goal.returns-in-err-e
 returns-in-err-e g c =
@@ -28,15 +28,15 @@ returns-in-err-e g c =
     let s = c.args.states.now in
     let explored = c.in-ok-n.ensures.explores in
     let stop = emit_stopped a job s c.explore.new.states arcs c.emit.new.arcs c.in-ok-n.n c.requires explored (Before job.left.count.arcs 0) c.in-err-e.field-0.0 c.from-residual-in-err-e.result c.from-residual-in-err-e.ensures.1 c.in-err-e.ensures.writes in
-    record { builds = stop.0; keeps-states = explored.1.kept; keeps-arcs = stop.1 }
+    record { builds = stop.0; keeps_states = explored.1.kept; keeps_arcs = stop.1 }
 
 pub returns : goal.returns
 returns g c =
     let job = c.args.job in
-    let explored = c.in-ok-n.ensures.explores in
-    let written = c.in-ok-e.ensures.writes in
+    let explored = c.in_ok-n.ensures.explores in
+    let written = c.in_ok-e.ensures.writes in
     record {
-      builds = product_built g.A.Alphabet.labels job c.args.states.now c.explore.new.states c.args.arcs.now c.emit.new.arcs c.in-ok-n.n c.requires explored c.in-ok-e.e written;
-      keeps-states = explored.1.kept;
-      keeps-arcs = written.0;
+      builds = product_built g.A.Alphabet.labels job c.args.states.now c.explore.new.states c.args.arcs.now c.emit.new.arcs c.in_ok-n.n c.requires explored c.in_ok-e.e written;
+      keeps_states = explored.1.kept;
+      keeps_arcs = written.0;
     }

@@ -15,14 +15,14 @@ emit-arc-requires g c =
 pub returns-in-err-written : goal.returns-in-err-written
 returns-in-err-written g c =
     record {
-      writes = wrote_stopped (products g.A.Alphabet.labels) (name_of c.args.job c.args.states.now c.args.n) c.args.n c.args.job c.args.states.now c.args.arcs.now c.loop-x.arcs c.emit-arc.new.arcs (Before (c.loop-x.x + 1) 0) (Before c.args.job.left.count.arcs 0)
+      writes = wrote_stopped (products g.A.Alphabet.labels) (name_of c.args.job c.args.states.now c.args.n) c.args.n c.args.job c.args.states.now c.args.arcs.now c.loop-x.arcs c.emit_arc.new.arcs (Before (c.loop-x.x + 1) 0) (Before c.args.job.left.count.arcs 0)
           c.in-err-written.field-0.0 c.from-residual.result c.requires.ready c.loop-x.invariant.0 c.from-residual.ensures.1 c.in-err-written.ensures.writes;
     }
 
 pub loop-x-preserved : goal.loop-x-preserved
 loop-x-preserved g c =
-    let new = c.in-ok-written.ensures.writes in
-    (kept_more c.args.job.used.arcs c.args.arcs.now c.loop-x.arcs c.emit-arc.new.arcs c.loop-x.invariant.0 new.0, new.1)
+    let new = c.in_ok-written.ensures.writes in
+    (kept_more c.args.job.used.arcs c.args.arcs.now c.loop-x.arcs c.emit_arc.new.arcs c.loop-x.invariant.0 new.0, new.1)
 
 pub returns : goal.returns
 returns g c =

@@ -7,7 +7,7 @@ use Rattle.build.proofs.Keeping.{kept_none, kept_more}
 use Rattle.build.proofs.product.emit_arc.Goals as goal
 
 pub loop-y-init : goal.loop-y-init
-loop-y-init g c = (kept_none c.args.job.used.arcs c.args.arcs.now, c.requires.0.1)
+loop-y-init g c = (kept_none c.args.job.used.arcs c.args.arcs.now, c.requires.paired.1)
 
 pub emit-pair-requires : goal.emit-pair-requires
 emit-pair-requires g c =
@@ -16,14 +16,14 @@ emit-pair-requires g c =
 pub returns-in-err-written : goal.returns-in-err-written
 returns-in-err-written g c =
     record {
-      writes = wrote_stopped (products g.A.Alphabet.labels) (name_of c.args.job c.args.states.now c.args.n) c.args.n c.args.job c.args.states.now c.args.arcs.now c.loop-y.arcs c.emit-pair.new.arcs (Before c.args.x (c.loop-y.y + 1)) (Before (c.args.x + 1) 0)
+      writes = wrote_stopped (products g.A.Alphabet.labels) (name_of c.args.job c.args.states.now c.args.n) c.args.n c.args.job c.args.states.now c.args.arcs.now c.loop-y.arcs c.emit_pair.new.arcs (Before c.args.x (c.loop-y.y + 1)) (Before (c.args.x + 1) 0)
           c.in-err-written.field-0.0 c.from-residual.result c.requires.0.0.ready c.loop-y.invariant.0 c.from-residual.ensures.1 c.in-err-written.ensures.writes;
     }
 
 pub loop-y-preserved : goal.loop-y-preserved
 loop-y-preserved g c =
-    let new = c.in-ok-written.ensures.writes in
-    (kept_more c.args.job.used.arcs c.args.arcs.now c.loop-y.arcs c.emit-pair.new.arcs c.loop-y.invariant.0 new.0, new.1)
+    let new = c.in_ok-written.ensures.writes in
+    (kept_more c.args.job.used.arcs c.args.arcs.now c.loop-y.arcs c.emit_pair.new.arcs c.loop-y.invariant.0 new.0, new.1)
 
 pub returns : goal.returns
 returns g c =
@@ -32,7 +32,7 @@ returns g c =
     let s = c.args.states.now in
     let arcs = c.loop-y.arcs in
     let kept = c.loop-y.invariant.0 in
-    let ready = ready_arcs job s c.args.arcs.now arcs c.requires.0.0.ready kept in
+    let ready = ready_arcs job s c.args.arcs.now arcs c.requires.paired.0.ready kept in
     let x = c.args.x in
     let y = c.loop-y.y in
     record {

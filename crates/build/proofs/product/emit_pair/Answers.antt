@@ -29,7 +29,7 @@ returns-then-not-meets g c =
     record {
       writes = (
         kept_none c.args.job.used.arcs c.args.arcs.now,
-        passed a c.args.job c.args.states.now c.args.n c.args.arcs.now c.args.e c.args.x c.args.y c.requires.0.1 (λ arrow. both_ways _ (sym c.if-not-meets.ensures.decides) arrow.3),
+        passed a c.args.job c.args.states.now c.args.n c.args.arcs.now c.args.e c.args.x c.args.y c.requires.paired.1 (λ arrow. both_ways _ (sym c.if-not-meets.ensures.decides) arrow.3),
       );
     }
 
@@ -55,12 +55,12 @@ arrow g c =
     let job = c.args.job in
     let arcs = c.args.arcs.now in
     let s = c.args.states.now in
-    let paired = c.requires.0.0 in
+    let paired = c.requires.paired.0 in
     let d : Arc g.row.A-Label.Denot = record { from = 0; label = a.full; to = 0 } in
     let found = c.in-Some.ensures.finds in
     let ready = paired.ready in (
-      omega (arith, arcs_count s arcs job.used job.left ready.in_use ready.left, c.requires.1.0),
-      omega (arith, arcs_count s arcs job.used job.right ready.in_use ready.right, c.requires.1.1),
+      omega (arith, arcs_count s arcs job.used job.left ready.in_use ready.left, c.requires.x_lt_arcs.0),
+      omega (arith, arcs_count s arcs job.used job.right ready.in_use ready.right, c.requires.x_lt_arcs.1),
       subst (λ (z : Pair). (product_of a job s arcs).State z) (found.1 ∙ (λ j. (c.from.ensures.reads d j, c.from-2.ensures.reads d j))) (paired.numbers.each c.in-Some.i found.0),
       sym c.if-not-meets.ensures.decides,
     )
@@ -73,8 +73,8 @@ unreachable-requires g c =
     let s = c.args.states.now in
     let d : Arc g.row.A-Label.Denot = record { from = 0; label = a.full; to = 0 } in
     let from = arrow g (goal.at.unreachable-requires g c).In-Some in
-    c.in-default-find.ensures.finds
-    (paired_has a job s arcs c.args.n (c.to.result, c.to-2.result) c.requires.0.0 (go c.args.x c.args.y from.2 from.0 from.1 refl refl from.3 (sym (c.to.ensures.reads d)) (sym (c.to-2.ensures.reads d))))
+    c.in_default-find.ensures.finds
+    (paired_has a job s arcs c.args.n (c.to.result, c.to-2.result) c.requires.paired.0 (go c.args.x c.args.y from.2 from.0 from.1 refl refl from.3 (sym (c.to.ensures.reads d)) (sym (c.to-2.ensures.reads d))))
 
 pub returns : goal.returns
 returns g c =
@@ -92,10 +92,10 @@ returns g c =
       to_state = found'.0;
       from_is = found.1 ∙ (λ j. (c.from.ensures.reads d j, c.from-2.ensures.reads d j));
       to_is = found'.1 ∙ (λ j. (c.to.ensures.reads d j, c.to-2.ensures.reads d j));
-      label_is = c.meet-label.ensures.is-meet ∙ (λ j. a.meet (c.label.ensures.reads d j) (c.label-2.ensures.reads d j));
+      label_is = c.meet-label.ensures.is_meet ∙ (λ j. a.meet (c.label.ensures.reads d j) (c.label-2.ensures.reads d j));
     } in
     let x = c.args.x in
     let y = c.args.y in
     record {
-      writes = wrote_push (products a) (name_of job s n) n job s arcs c.push.new.arcs c.args.e (Before x y) (Before x (y + 1)) (x, y) b c.push.result (not_before x y) c.requires.0.1 (arrow g (goal.at.returns g c).In-Some) c.requires.0.0.ready for (before_more x y) (inr (refl, omega arith)) (before_last x y) c.push.ensures.pushes;
+      writes = wrote_push (products a) (name_of job s n) n job s arcs c.push.new.arcs c.args.e (Before x y) (Before x (y + 1)) (x, y) b c.push.result (not_before x y) c.requires.paired.1 (arrow g (goal.at.returns g c).In-Some) c.requires.paired.0.ready for (before_more x y) (inr (refl, omega arith)) (before_last x y) c.push.ensures.pushes;
     }

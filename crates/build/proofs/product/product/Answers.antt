@@ -13,8 +13,8 @@ returns g c =
     let built = c.build.ensures in
     record {
       answers = inl (ready, built.builds);
-      accepts-what-both-accept = built_product_exact a g.met.A.Alphabet.lawful (left_of job s arcs) (right_of job s arcs) job.used c.build.new.states c.build.new.arcs c.build.result built.builds;
+      accepts_what_both_accept = built_product_exact a g.met.A.Alphabet.lawful (left_of job s arcs) (right_of job s arcs) job.used c.build.new.states c.build.new.arcs c.build.result built.builds;
       sizes = built_sizes a (product_of a job s arcs) job.used c.build.new.states c.build.new.arcs c.build.result built.builds;
-      keeps-states = built.keeps-states;
-      keeps-arcs = built.keeps-arcs;
+      keeps_states = built.keeps_states;
+      keeps_arcs = built.keeps_arcs;
     }

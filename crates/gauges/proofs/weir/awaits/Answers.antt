@@ -15,9 +15,9 @@ rows c = λ i. of_rows (c.wait-states-states.ensures.rows i) (c.wait-arcs-arcs.e
 pub returns-in-Ok : goal.returns-in-Ok
 returns-in-Ok c =
     let w = c.args.reply.now in
-    let told = subst (λ m. Decides c.in-Ok.accepted (Accepts modem.admits m w)) (rows (goal.at.returns-in-Ok c).After-accepts) c.in-Ok.ensures.decides-acceptance.1 in
+    let told = subst (λ m. Decides c.in-Ok.accepted (Accepts modem.admits m w)) (rows (goal.at.returns-in-Ok c).After-accepts) c.in-Ok.ensures.decides_acceptance.1 in
     record { decides = Decides-like _ (exact w).0 (exact w).1 told }
 
 pub returns-in-Err : goal.returns-in-Err
 returns-in-Err c =
-    absurd (never_refused wait (number c.in-Err.field-0) sound (subst (λ m. Cause m (number c.in-Err.field-0)) (rows (goal.at.returns-in-Err c).After-accepts) c.in-Err.ensures.decides-acceptance))
+    absurd (never_refused wait (number c.in-Err.field-0) sound (subst (λ m. Cause m (number c.in-Err.field-0)) (rows (goal.at.returns-in-Err c).After-accepts) c.in-Err.ensures.decides_acceptance))

@@ -7,4 +7,4 @@ pub returns-in-Err : goal.returns-in-Err
 returns-in-Err c =
     let text = c.new-level.result.letters.now in
     let four : length text ≡ 4 = ap length c.new-level.ensures.holds in
-    absurd (never_refused _ _ (chain_sound marks_from_to text (omega arith)) c.in-Err.ensures.decides-acceptance)
+    absurd (never_refused _ _ (chain_sound marks_from_to text (omega arith)) c.in-Err.ensures.decides_acceptance)

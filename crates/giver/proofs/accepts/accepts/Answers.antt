@@ -14,8 +14,8 @@ pub returns : goal.returns
 returns g c =
     let m = g.G.Giver.automaton c.args.giver.now in
     record {
-      decides-acceptance = let whole = take_all c.loop-letter.letter-index c.args.word.now c.loop-letter-test.false in (
-        c.in-ok-check.ensures.checked.0,
-        reached_accepts m c.args.word.now c.loop-letter.set c.some-accepts.result (subst (λ w. Reached g.A.Alphabet.labels.admits m w c.loop-letter.set) whole c.loop-letter.invariant) c.some-accepts.ensures.decides,
+      decides_acceptance = let whole = take_all c.loop-letter.letter-index c.args.word.now c.loop-letter-test.false in (
+        c.in_ok-check.ensures.checked.0,
+        reached_accepts m c.args.word.now c.loop-letter.set c.some_accepts.result (subst (λ w. Reached g.A.Alphabet.labels.admits m w c.loop-letter.set) whole c.loop-letter.invariant) c.some_accepts.ensures.decides,
       );
     }

@@ -3,4 +3,4 @@ use Rattle.giver.proofs.accepts.check.Goals as goal
 
 pub returns : goal.returns
 returns g c =
-    record { checked = (((omega arith, omega arith), c.leads-inside.ensures.decides.0 c.if-not-leads-inside.false), tt) }
+    record { checked = (((omega arith, omega arith), c.leads_inside.ensures.decides.0 c.if-not-leads_inside.false), tt) }

@@ -12,7 +12,7 @@ returns-then-arc-states g c =
       decides = (
         λ e. absurd (false≢true e),
         λ inside.
-            let both : (c.arc-arc.result.from < n) × (c.arc-arc.result.to < n) = subst (λ (b : Arc g.row.A-Label.Denot). (b.from < n) × (b.to < n)) (sym c.arc-arc.ensures.tells-arc) (inside _ (arc_has g.A.Alphabet.labels m c.loop-k.k (omega arith))) in
+            let both : (c.arc-arc.result.from < n) × (c.arc-arc.result.to < n) = subst (λ (b : Arc g.row.A-Label.Denot). (b.from < n) × (b.to < n)) (sym c.arc-arc.ensures.tells_arc) (inside _ (arc_has g.A.Alphabet.labels m c.loop-k.k (omega arith))) in
             absurd (⊎_elim (λ h. omega (arith, both.0)) (λ h. omega (arith, both.1, h.1)) c.then-arc-states.either),
       );
     }

@@ -17,7 +17,7 @@ loop-q-preserved g c =
     let q = c.loop-q.q in
     let set = c.loop-q.set in (
       simp length-set inv.0,
-      below_more _ _ (λ p low. get_or-set_other set q p _ _ (λ e. omega arith) ∙ inv.1 p low) (get_or-set_same set q _ _ (omega arith) ∙ ap (λ s. s.initial) c.marks.ensures.tells-marks),
+      below_more _ _ (λ p low. get_or-set_other set q p _ _ (λ e. omega arith) ∙ inv.1 p low) (get_or-set_same set q _ _ (omega arith) ∙ ap (λ s. s.initial) c.marks.ensures.tells_marks),
       λ p high. get_or-set_other set q p _ _ (λ e. omega arith) ∙ inv.2 p (omega arith),
     )
 

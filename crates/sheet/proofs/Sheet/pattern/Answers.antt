@@ -9,12 +9,12 @@ pub invariant-of-self : goal.invariant-of-self
 invariant-of-self g c =
     let s = c.args.self.now in
     let room = c.if-not-fits.ensures.decides.0 refl in
-    let states = c.state-count.ensures.counts-states in
-    let arcs = c.arc-count.ensures.counts-arcs in
-    let h : Held = record { part = c.args.part; place = record { first = s.counts.held; count = record { states = c.state-count.result; arcs = c.arc-count.result } } } in
+    let states = c.state_count.ensures.counts_states in
+    let arcs = c.arc_count.ensures.counts_arcs in
+    let h : Held = record { part = c.args.part; place = record { first = s.counts.held; count = record { states = c.state_count.result; arcs = c.arc_count.result } } } in
     let pushed = take_more_set s.patterns s.counts.patterns h (omega (arith, s.long_patterns)) in (
       s.few_parts,
-      (omega arith, (s.few_joins, (omega (arith, room.states_fit, states), (omega (arith, room.arcs_fit, arcs), (length-set s.patterns s.counts.patterns h ∙ s.long_patterns, (s.long_joins, (subst (ForParts s.counts.parts) (sym pushed) (for_parts_and s.counts.parts (take s.counts.patterns s.patterns) h s.for_parts (omega arith)), (subst (Among (record { states = s.counts.held.states + c.state-count.result; arcs = s.counts.held.arcs + c.arc-count.result })) (sym pushed) (among_and s.counts.held (take s.counts.patterns s.patterns) c.args.part c.state-count.result c.arc-count.result s.among), (s.known, (s.acyclic, tt)))))))))),
+      (omega arith, (s.few_joins, (omega (arith, room.states_fit, states), (omega (arith, room.arcs_fit, arcs), (length-set s.patterns s.counts.patterns h ∙ s.long_patterns, (s.long_joins, (subst (ForParts s.counts.parts) (sym pushed) (for_parts_and s.counts.parts (take s.counts.patterns s.patterns) h s.for_parts (omega arith)), (subst (Among (record { states = s.counts.held.states + c.state_count.result; arcs = s.counts.held.arcs + c.arc_count.result })) (sym pushed) (among_and s.counts.held (take s.counts.patterns s.patterns) c.args.part c.state_count.result c.arc_count.result s.among), (s.known, (s.acyclic, tt)))))))))),
     )
 
 pub returns : goal.returns
@@ -22,15 +22,15 @@ returns g c =
     let s = c.args.self.now in
     let room = c.if-not-fits.ensures.decides.0 refl in
     let sound = c.in-default.ensures.checked.0 in
-    let states = c.state-count.ensures.counts-states in
-    let arcs = c.arc-count.ensures.counts-arcs in
-    let h : Held = record { part = c.args.part; place = record { first = s.counts.held; count = record { states = c.state-count.result; arcs = c.arc-count.result } } } in
+    let states = c.state_count.ensures.counts_states in
+    let arcs = c.arc_count.ensures.counts_arcs in
+    let h : Held = record { part = c.args.part; place = record { first = s.counts.held; count = record { states = c.state_count.result; arcs = c.arc_count.result } } } in
     let pushed = take_more_set s.patterns s.counts.patterns h (omega (arith, s.long_patterns)) in
     let counted : take s.counts.patterns s.patterns ++ h ∷ [] ≡ take s.counts.patterns s.patterns ++ record { part = c.args.part; place = record { first = s.counts.held; count = record { states = length (g.G.Giver.automaton c.args.giver.now).states; arcs = length (g.G.Giver.automaton c.args.giver.now).arcs } } } ∷ [] = λ i. take s.counts.patterns s.patterns ++ record { part = c.args.part; place = record { first = s.counts.held; count = record { states = states i; arcs = arcs i } } } ∷ [] in
     record {
       answers = (
         (omega arith, (omega (arith, length-take-le s.counts.patterns s.patterns (omega (arith, s.long_patterns))), (sound.0, (sound.1, (c.if-not-whole.ensures.decides.0 refl, (room, tt)))))),
         (λ i. record { parts = s.counts.parts; patterns = (pushed ∙ counted) i; joins = take s.counts.joins s.joins; held = record { states = s.counts.held.states + states i; arcs = s.counts.held.arcs + arcs i } }),
-        record { states_kept = c.copy-states.ensures.keeps; arcs_kept = c.copy-arcs.ensures.keeps; states_are = c.copy-states.ensures.copies; arcs_are = c.copy-arcs.ensures.copies },
+        record { states_kept = c.copy_states.ensures.keeps; arcs_kept = c.copy_arcs.ensures.keeps; states_are = c.copy_states.ensures.copies; arcs_are = c.copy_arcs.ensures.copies },
       );
     }

@@ -16,7 +16,7 @@ loop-k-preserved g c =
     let b = c.arc.result in
     subst (λ u. Kept at c.args.arcs.now u × (part u at (k + 1) ≡ take (k + 1) m.arcs)) (sym c.put.ensures.writes) (
       kept_more at c.args.arcs.now t _ kept (kept_set at _ t b (omega arith)),
-      part_more t at k b (omega (arith, kept.long, c.requires)) ∙ ap (λ l. l ++ b ∷ []) c.loop-k.invariant.1 ∙ ap (λ (x : Arc g.row.A-Label.Denot). take k m.arcs ++ x ∷ []) c.arc.ensures.tells-arc ∙ sym (take_more m.arcs k _ (omega arith)),
+      part_more t at k b (omega (arith, kept.long, c.requires)) ∙ ap (λ l. l ++ b ∷ []) c.loop-k.invariant.1 ∙ ap (λ (x : Arc g.row.A-Label.Denot). take k m.arcs ++ x ∷ []) c.arc.ensures.tells_arc ∙ sym (take_more m.arcs k _ (omega arith)),
     )
 
 pub returns : goal.returns

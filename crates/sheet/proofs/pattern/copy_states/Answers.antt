@@ -16,7 +16,7 @@ loop-q-preserved g c =
     let kept = c.loop-q.invariant.0 in
     let row = plain c.marks.result in (
       kept_more at c.args.states.now t _ kept (kept_set at _ t row (omega arith)),
-      part_more t at q row (omega (arith, kept.long, c.requires)) ∙ ap (λ l. l ++ row ∷ []) c.loop-q.invariant.1 ∙ ap (λ s. map plain (take q m.states) ++ plain s ∷ []) c.marks.ensures.tells-marks ∙ sym (map_more plain m.states q unmarked (omega arith)),
+      part_more t at q row (omega (arith, kept.long, c.requires)) ∙ ap (λ l. l ++ row ∷ []) c.loop-q.invariant.1 ∙ ap (λ s. map plain (take q m.states) ++ plain s ∷ []) c.marks.ensures.tells_marks ∙ sym (map_more plain m.states q unmarked (omega arith)),
     )
 
 pub returns : goal.returns

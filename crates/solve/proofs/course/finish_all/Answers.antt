@@ -26,7 +26,7 @@ opened g c =
     let found = c.in-Some.ensures.finds in
     let counted = ap (λ x. x.parts) c.counts-parts.ensures.counted in
     subst (λ (n : ℕ). (p < n) × Open (view c.args.sheet.now).joins hs p × ((q : ℕ) → q < p → Open (view c.args.sheet.now).joins hs q → ⊥)) counted
-    (subst (λ (js : List Join). (p < c.counts-parts.result.parts) × Open js hs p × ((q : ℕ) → q < p → Open js hs q → ⊥)) c.joins-joins.ensures.held-joins found)
+    (subst (λ (js : List Join). (p < c.counts-parts.result.parts) × Open js hs p × ((q : ℕ) → q < p → Open js hs q → ⊥)) c.joins-joins.ensures.held_joins found)
 
 -- the held patterns stand
 standing : (g : given.Over) (c : In-Some g) → let v = view c.args.sheet.now in AllStand c.args.states.now c.args.arcs.now v.held v.patterns
@@ -57,8 +57,8 @@ build-part-requires g c =
     let at = (goal.at.build-part-requires g c).In-Some in
     let under = c.loop-part.invariant.0 in
     let found = opened g at in (
-      (under.built.in_use, (subst (AllStand s e used) (sym c.patterns-patterns.ensures.held-patterns) (patterns_stand g.A.Alphabet.labels v s₀ e₀ (standing g at) s e hs used under), under.built.stand)),
-      subst (λ (js : List Join). (k : ℕ) → k < length js → (get_or js k none).whole ≡ c.in-Some.part → Among hs (get_or js k none).left × Among hs (get_or js k none).right) (sym c.joins-joins.ensures.held-joins) found.1.right_hand,
+      (under.built.in_use, (subst (AllStand s e used) (sym c.patterns-patterns.ensures.held_patterns) (patterns_stand g.A.Alphabet.labels v s₀ e₀ (standing g at) s e hs used under), under.built.stand)),
+      subst (λ (js : List Join). (k : ℕ) → k < length js → (get_or js k none).whole ≡ c.in-Some.part → Among hs (get_or js k none).left × Among hs (get_or js k none).right) (sym c.joins-joins.ensures.held_joins) found.1.right_hand,
     )
 
 pub bounds-finished-count : goal.bounds-finished-count
@@ -85,8 +85,8 @@ loop-part-preserved g c =
     let e₀ = c.args.arcs.now in
     let s = c.loop-part.states in
     let e = c.loop-part.arcs in
-    let s' = c.build-part.new.states in
-    let e' = c.build-part.new.arcs in
+    let s' = c.build_part.new.states in
+    let e' = c.build_part.new.arcs in
     let v = view c.args.sheet.now in
     let n = c.loop-part.count in
     let hs = take n c.loop-part.finished in
@@ -99,8 +99,8 @@ loop-part-preserved g c =
     let h : Held = record { part = p; place = w.running } in
     let low = below g at in
     let counted = ap (λ x. x.parts) c.counts-parts.ensures.counted in
-    let one = subst (λ (ps : List Held). PartBuilt a (pattern_operands (map (read s e) ps) p ++ join_operands (dones s e hs) c.joins-joins.result.now p) used s e s' e' (Ok w)) c.patterns-patterns.ensures.held-patterns c.in-Ok.ensures.builds in
-    let two = subst (λ (js : List Join). PartBuilt a (pattern_operands (map (read s e) v.patterns) p ++ join_operands (dones s e hs) js p) used s e s' e' (Ok w)) c.joins-joins.ensures.held-joins one in (
+    let one = subst (λ (ps : List Held). PartBuilt a (pattern_operands (map (read s e) ps) p ++ join_operands (dones s e hs) c.joins-joins.result.now p) used s e s' e' (Ok w)) c.patterns-patterns.ensures.held_patterns c.in-Ok.ensures.builds in
+    let two = subst (λ (js : List Join). PartBuilt a (pattern_operands (map (read s e) v.patterns) p ++ join_operands (dones s e hs) js p) used s e s' e' (Ok w)) c.joins-joins.ensures.held_joins one in (
       subst (λ (l : List Held). Underway a v s₀ e₀ s' e' l w.used) (sym (take_more_set c.loop-part.finished n h (omega (arith, low.1, inv.1)))) (underway_more a v s₀ e₀ (standing g at) s e hs used inv.0 p found.0 found.1 found.2 s' e' w two),
       length-set c.loop-part.finished n h ∙ inv.1,
       omega (arith, low.0, counted),
@@ -111,8 +111,8 @@ returns-in-Err g c =
     let a = g.A.Alphabet.labels in
     let s = c.loop-part.states in
     let e = c.loop-part.arcs in
-    let s' = c.build-part.new.states in
-    let e' = c.build-part.new.arcs in
+    let s' = c.build_part.new.states in
+    let e' = c.build_part.new.arcs in
     let v = view c.args.sheet.now in
     let hs = take c.loop-part.count c.loop-part.finished in
     let used = c.loop-part.used in
@@ -120,8 +120,8 @@ returns-in-Err g c =
     let found = opened g at in
     let p = c.in-Some.part in
     let x = c.in-Err.halt in
-    let one = subst (λ (ps : List Held). PartBuilt a (pattern_operands (map (read s e) ps) p ++ join_operands (dones s e hs) c.joins-joins.result.now p) used s e s' e' (Err x)) c.patterns-patterns.ensures.held-patterns c.in-Err.ensures.builds in
-    let two = subst (λ (js : List Join). PartBuilt a (pattern_operands (map (read s e) v.patterns) p ++ join_operands (dones s e hs) js p) used s e s' e' (Err x)) c.joins-joins.ensures.held-joins one in
+    let one = subst (λ (ps : List Held). PartBuilt a (pattern_operands (map (read s e) ps) p ++ join_operands (dones s e hs) c.joins-joins.result.now p) used s e s' e' (Err x)) c.patterns-patterns.ensures.held_patterns c.in-Err.ensures.builds in
+    let two = subst (λ (js : List Join). PartBuilt a (pattern_operands (map (read s e) v.patterns) p ++ join_operands (dones s e hs) js p) used s e s' e' (Err x)) c.joins-joins.ensures.held_joins one in
     record { ends = stopped a v c.args.states.now c.args.arcs.now (standing g at) s e hs used c.loop-part.invariant.0 p found.0 found.1 found.2 s' e' x two }
 
 pub returns : goal.returns
@@ -133,5 +133,5 @@ returns g c =
     let hs = take c.loop-part.count c.loop-part.finished in
     let inv = c.loop-part.invariant in
     let counted = ap (λ x. x.parts) c.counts-parts.ensures.counted in
-    let none_open = subst (λ (n : ℕ). (p : ℕ) → p < n → Open v.joins hs p → ⊥) counted (subst (λ (js : List Join). (p : ℕ) → p < c.counts-parts.result.parts → Open js hs p → ⊥) c.joins-joins.ensures.held-joins c.in-default.ensures.finds) in
+    let none_open = subst (λ (n : ℕ). (p : ℕ) → p < n → Open v.joins hs p → ⊥) counted (subst (λ (js : List Join). (p : ℕ) → p < c.counts-parts.result.parts → Open js hs p → ⊥) c.joins-joins.ensures.held_joins c.in-default.ensures.finds) in
     record { ends = (completed g.A.Alphabet.labels v s₀ e₀ (whole_stands v s₀ e₀ (among sheet) c.requires) c.loop-part.states c.loop-part.arcs hs c.loop-part.used inv.0 (acyclic sheet) (known sheet) none_open, omega (arith, inv.2, counted, few_parts sheet), inv.1) }

@@ -9,8 +9,8 @@ use Rattle.solve.proofs.course.meet_all.Goals as goal
 pub meet-joins-requires : goal.meet-joins-requires
 meet-joins-requires g c =
     let w = c.args.work in
-    let s' = c.meet-patterns.new.states in
-    let e' = c.meet-patterns.new.arcs in
+    let s' = c.meet_patterns.new.states in
+    let e' = c.meet_patterns.new.arcs in
     let went = c.in-ok-met.ensures.goes in
     ((went.grown.works, (λ h has. stands_more s' e' w.used c.in-ok-met.met.used h.place went.grown.more_states went.grown.more_arcs (stands_same w.used c.args.states.now s' c.args.arcs.now e' went.states_kept went.arcs_kept h.place (c.requires.0.1.1 h has)))), c.requires.1)
 
@@ -26,9 +26,9 @@ returns g c =
     let w = c.args.work in
     let s = c.args.states.now in
     let e = c.args.arcs.now in
-    let s' = c.meet-patterns.new.states in
-    let e' = c.meet-patterns.new.arcs in
+    let s' = c.meet_patterns.new.states in
+    let e' = c.meet_patterns.new.arcs in
     let went = c.in-ok-met.ensures.goes in
     let same = dones_same w.used s s' e e' went.states_kept went.arcs_kept c.args.finished.now c.requires.0.1.1 in
-    let step = subst (λ (ds : List (Done g.row.A-Label.Denot)). Went a (join_operands ds c.args.joins.now c.args.part) c.in-ok-met.met s' e' c.meet-joins.new.states c.meet-joins.new.arcs c.meet-joins.result) same c.meet-joins.ensures.goes in
+    let step = subst (λ (ds : List (Done g.row.A-Label.Denot)). Went a (join_operands ds c.args.joins.now c.args.part) c.in-ok-met.met s' e' c.meet_joins.new.states c.meet_joins.new.arcs c.meet_joins.result) same c.meet_joins.ensures.goes in
     record { goes = went_then a w s e went step }

@@ -21,7 +21,7 @@ loop-k-init g c = went_none g.A.Alphabet.labels c.args.work c.args.states.now c.
 
 -- one join more
 stepped : (g : given.Over) (c : After-meet-join g) → let s = c.args.states.now in let e = c.args.arcs.now in
-    Went g.A.Alphabet.labels (join_operands (dones s e c.args.finished.now) (take (c.loop-k.k + 1) c.args.joins.now) c.args.part) c.args.work s e c.meet-join.new.states c.meet-join.new.arcs c.meet-join.result
+    Went g.A.Alphabet.labels (join_operands (dones s e c.args.finished.now) (take (c.loop-k.k + 1) c.args.joins.now) c.args.part) c.args.work s e c.meet_join.new.states c.meet_join.new.arcs c.meet_join.result
 stepped g c =
     let a = g.A.Alphabet.labels in
     let w = c.args.work in
@@ -32,14 +32,14 @@ stepped g c =
     let k = c.loop-k.k in
     let p = c.args.part in
     let inv = c.loop-k.invariant in
-    let s' = c.meet-join.new.states in
-    let e' = c.meet-join.new.arcs in
+    let s' = c.meet_join.new.states in
+    let e' = c.meet_join.new.arcs in
     let same = dones_same w.used s c.loop-k.states e c.loop-k.arcs inv.states_kept inv.arcs_kept hs c.requires.0.1 in
-    let step = subst (λ (x : List (Done g.row.A-Label.Denot)). Went a (join_operands x (get_or js k none ∷ []) p) c.loop-k.met c.loop-k.states c.loop-k.arcs s' e' c.meet-join.result) same c.meet-join.ensures.goes in
-    subst (λ os. Went a os w s e s' e' c.meet-join.result) (sym (joins_more p (dones s e hs) js k c.loop-k-test.true)) (went_then a w s e inv step)
+    let step = subst (λ (x : List (Done g.row.A-Label.Denot)). Went a (join_operands x (get_or js k none ∷ []) p) c.loop-k.met c.loop-k.states c.loop-k.arcs s' e' c.meet_join.result) same c.meet_join.ensures.goes in
+    subst (λ os. Went a os w s e s' e' c.meet_join.result) (sym (joins_more p (dones s e hs) js k c.loop-k-test.true)) (went_then a w s e inv step)
 
 pub loop-k-preserved : goal.loop-k-preserved
-loop-k-preserved g c = subst (Went g.A.Alphabet.labels _ c.args.work c.args.states.now c.args.arcs.now c.meet-join.new.states c.meet-join.new.arcs) c.in-ok-met.was (stepped g (goal.at.loop-k-preserved g c).After-meet-join)
+loop-k-preserved g c = subst (Went g.A.Alphabet.labels _ c.args.work c.args.states.now c.args.arcs.now c.meet_join.new.states c.meet_join.new.arcs) c.in-ok-met.was (stepped g (goal.at.loop-k-preserved g c).After-meet-join)
 
 pub returns-in-err-met : goal.returns-in-err-met
 returns-in-err-met g c =
@@ -51,8 +51,8 @@ returns-in-err-met g c =
     let ds = dones s e c.args.finished.now in
     let k = c.loop-k.k in
     let p = c.args.part in
-    let s' = c.meet-join.new.states in
-    let e' = c.meet-join.new.arcs in
+    let s' = c.meet_join.new.states in
+    let e' = c.meet_join.new.arcs in
     let all = subst (Went a (join_operands ds (take (k + 1) js) p) w s e s' e') c.in-err-met.was (stepped g (goal.at.returns-in-err-met g c).After-meet-join) in
     record { goes = went_broken a w s e (join_operands ds (drop (k + 1) js) p) (joins_rest p ds js (k + 1)) c.from-residual.result c.from-residual.ensures.1 all }
 

@@ -24,7 +24,7 @@ loop-k-init g c = went_none g.A.Alphabet.labels c.args.work c.args.states.now c.
 
 -- one pattern more
 stepped : (g : given.Over) (c : After-meet-pattern g) → let s = c.args.states.now in let e = c.args.arcs.now in
-    Went g.A.Alphabet.labels (pattern_operands (map (read s e) (take (c.loop-k.k + 1) c.args.patterns.now)) c.args.part) c.args.work s e c.meet-pattern.new.states c.meet-pattern.new.arcs c.meet-pattern.result
+    Went g.A.Alphabet.labels (pattern_operands (map (read s e) (take (c.loop-k.k + 1) c.args.patterns.now)) c.args.part) c.args.work s e c.meet_pattern.new.states c.meet_pattern.new.arcs c.meet_pattern.result
 stepped g c =
     let a = g.A.Alphabet.labels in
     let w = c.args.work in
@@ -35,15 +35,15 @@ stepped g c =
     let p = c.args.part in
     let h = get_or hs k nowhere in
     let inv = c.loop-k.invariant in
-    let s' = c.meet-pattern.new.states in
-    let e' = c.meet-pattern.new.arcs in
+    let s' = c.meet_pattern.new.states in
+    let e' = c.meet_pattern.new.arcs in
     let stands = c.requires.1 h (has_get_or hs k nowhere c.loop-k-test.true) in
     let same = read_same w.used s c.loop-k.states e c.loop-k.arcs inv.states_kept inv.arcs_kept h stands.lies in
-    let step = subst (λ (x : Pattern g.row.A-Label.Denot). Went a (pattern_operands (x ∷ []) p) c.loop-k.met c.loop-k.states c.loop-k.arcs s' e' c.meet-pattern.result) same c.meet-pattern.ensures.goes in
-    subst (λ os. Went a os w s e s' e' c.meet-pattern.result) (sym (patterns_more p (read s e) hs k c.loop-k-test.true)) (went_then a w s e inv step)
+    let step = subst (λ (x : Pattern g.row.A-Label.Denot). Went a (pattern_operands (x ∷ []) p) c.loop-k.met c.loop-k.states c.loop-k.arcs s' e' c.meet_pattern.result) same c.meet_pattern.ensures.goes in
+    subst (λ os. Went a os w s e s' e' c.meet_pattern.result) (sym (patterns_more p (read s e) hs k c.loop-k-test.true)) (went_then a w s e inv step)
 
 pub loop-k-preserved : goal.loop-k-preserved
-loop-k-preserved g c = subst (Went g.A.Alphabet.labels _ c.args.work c.args.states.now c.args.arcs.now c.meet-pattern.new.states c.meet-pattern.new.arcs) c.in-ok-met.was (stepped g (goal.at.loop-k-preserved g c).After-meet-pattern)
+loop-k-preserved g c = subst (Went g.A.Alphabet.labels _ c.args.work c.args.states.now c.args.arcs.now c.meet_pattern.new.states c.meet_pattern.new.arcs) c.in-ok-met.was (stepped g (goal.at.loop-k-preserved g c).After-meet-pattern)
 
 pub returns-in-err-met : goal.returns-in-err-met
 returns-in-err-met g c =
@@ -54,8 +54,8 @@ returns-in-err-met g c =
     let hs = c.args.patterns.now in
     let k = c.loop-k.k in
     let p = c.args.part in
-    let s' = c.meet-pattern.new.states in
-    let e' = c.meet-pattern.new.arcs in
+    let s' = c.meet_pattern.new.states in
+    let e' = c.meet_pattern.new.arcs in
     let all = subst (Went a (pattern_operands (map (read s e) (take (k + 1) hs)) p) w s e s' e') c.in-err-met.was (stepped g (goal.at.returns-in-err-met g c).After-meet-pattern) in
     record { goes = went_broken a w s e (pattern_operands (map (read s e) (drop (k + 1) hs)) p) (patterns_rest p (read s e) hs (k + 1)) c.from-residual.result c.from-residual.ensures.1 all }
 

@@ -21,4 +21,4 @@ place-words-requires g c =
     )
 
 pub returns : goal.returns
-returns g c = record { judges = (c.if-not-is-single-use.ensures.decides.0 refl, c.in-default.ensures.finds, record { listed = c.list-parts-2.new.report; lists = c.list-parts-2.ensures.lists; placed = c.place-words.ensures.places }) }
+returns g c = record { judges = (c.if-not-is-single-use.ensures.decides.0 refl, c.in-default.ensures.finds, record { listed = c.list-parts-2.new.report; lists = c.list-parts-2.ensures.lists; placed = c.place_words.ensures.places }) }

@@ -34,8 +34,8 @@ pub loop-k-preserved : goal.loop-k-preserved
 loop-k-preserved g c =
     let found = c.in-Some.ensures.finds in
     placing_more g.A.Alphabet.labels.admits c.args.states.now c.args.arcs.now c.args.joins.now c.args.parts c.args.report.now c.args.words.now c.loop-k.placed c.loop-k.states c.loop-k.report
-    c.loop-k.invariant c.requires.1.0 c.requires.1.1 c.requires.0.1.0 (standing g (goal.at.loop-k-preserved g c).In-Some).rows_there c.in-Some.k found.0 found.1 found.2 c.split-join.new.states c.split-join.new.report
-    c.split-join.ensures.splits c.split-join.ensures.renumbers
+    c.loop-k.invariant c.requires.1.0 c.requires.1.1 c.requires.0.1.0 (standing g (goal.at.loop-k-preserved g c).In-Some).rows_there c.in-Some.k found.0 found.1 found.2 c.split_join.new.states c.split_join.new.report
+    c.split_join.ensures.splits c.split_join.ensures.renumbers
 
 pub loop-k-smaller : goal.loop-k-smaller
 loop-k-smaller g c =
@@ -78,7 +78,7 @@ returns g c =
     record {
       renumbers = inv.renumbered;
       rewords = inv.reworded;
-      keeps-roots = inv.kept;
+      keeps_roots = inv.kept;
       pieces = all_pieces admits start arcs joins c.args.parts given words c.loop-k.placed c.loop-k.states c.loop-k.report inv settled all c.requires.1.1;
       accepts = λ p low. (inv.worded p (all p low)).0;
     }

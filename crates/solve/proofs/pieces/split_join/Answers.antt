@@ -8,7 +8,7 @@ use Rattle.solve.proofs.pieces.split_join.Goals.{After-split-at-2}
 
 -- the letters are the word of the whole
 letters : (g : given.Over) (c : After-split-at-2 g) → c.split-at-2.result.0.now ≡ word_at c.args.words.now (row c.args.report.now c.args.join.whole).word
-letters g c = c.split-at-2.ensures.front ∙ ap (take _) c.split-at.ensures.back
+letters g c = c.split-at-2.ensures.front ∙ ap (take _) c.split_at.ensures.back
 
 pub unreachable-requires : goal.unreachable-requires
 unreachable-requires g c =

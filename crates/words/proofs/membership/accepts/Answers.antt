@@ -12,7 +12,7 @@ returns g c =
     let arcs = c.args.arcs.now in
     let start = c.args.states.now in
     let both = c.stands.ensures.decides.0 c.if-not-stands.false in
-    let exact = reached_accepts g.A.Alphabet.labels arcs p start c.run.new.states c.args.word.now c.some-accepts.result (placed start arcs c.args.used p both.0 both.1) c.run.ensures.renumbers c.run.ensures.reaches c.some-accepts.ensures.decides in
+    let exact = reached_accepts g.A.Alphabet.labels arcs p start c.run.new.states c.args.word.now c.some_accepts.result (placed start arcs c.args.used p both.0 both.1) c.run.ensures.renumbers c.run.ensures.reaches c.some_accepts.ensures.decides in
     record {
       decides = (λ e. (both.0, both.1, exact.0 e), λ h. exact.1 h.2);
       renumbers = c.run.ensures.renumbers;

@@ -45,11 +45,11 @@ loop-k-preserved g c =
       | then-current+then-admits w ↦
           subst next (sym (w.states-is ∙ w.enter.ensures.writes))
           (followed_enter a arcs p letter k start states b (is g here) c.loop-k.invariant (omega (arith, to, c.requires.0.states_fit, c.loop-k.auto.states))
-          (sym (c.loop-k.invariant.set b.from) ∙ c.current.ensures.decides.0 w.if-current.true) (sym w.if-admits.ensures.in-set))
+          (sym (c.loop-k.invariant.set b.from) ∙ c.current.ensures.decides.0 w.if-current.true) (sym w.if-admits.ensures.in_set))
       | else-current w ↦
           subst next (sym w.states-is)
           (elim w.else-current.branch [
-            | else-current-via-then-current+else-admits v ↦ pass (λ _ yes'. both_ways (a.admits b.label letter) (sym v.if-admits.ensures.in-set) yes')
+            | else-current-via-then-current+else-admits v ↦ pass (λ _ yes'. both_ways (a.admits b.label letter) (sym v.if-admits.ensures.in_set) yes')
             | else-current-via-else-current v ↦ pass (λ from _. both_ways c.current.result v.if-current.false (c.current.ensures.decides.1 (c.loop-k.invariant.set b.from ∙ from)))
           ])
     ]

@@ -13,7 +13,7 @@ loop-q-preserved g c =
     let q = c.loop-q.q in
     let m = at c.args.states.now c.args.arcs.now p in
     let inv = c.loop-q.invariant in
-    let writes = c.set-layer.ensures.writes in
+    let writes = c.set_layer.ensures.writes in
     let told : c.marks.result.accepting ≡ accepting m q = ap (λ s. s.accepting) c.marks.ensures.reads ∙ ap (λ k. accepting k q) (at_renumbered _ _ _ c.args.arcs.now inv.0 p) in
     let is : c.if-marks.layer ≡ cond (accepting m q) 1 0 =
     elim c.if-marks.branch [
@@ -23,6 +23,6 @@ loop-q-preserved g c =
       renumbered_more _ _ _ _ inv.0 writes.renumbered,
       λ r low.
           ⊎_elim
-          (λ same. ap (layer c.set-layer.new.states p) same ∙ writes.here ∙ is ∙ ap (λ x. cond (accepting m x) 1 0) (sym same))
+          (λ same. ap (layer c.set_layer.new.states p) same ∙ writes.here ∙ is ∙ ap (λ x. cond (accepting m x) 1 0) (sym same))
           (λ other. writes.elsewhere r other ∙ inv.1 r (omega arith)) (cases_eq r q),
     )

@@ -44,7 +44,7 @@ spell-requires g c =
     let fit = fit_stands c.args.states.now arcs c.args.used p both.0 both.1 in
     let same = at_renumbered _ _ _ arcs c.layers.ensures.renumbers p in (
       (fit_renumbered arcs p c.layers.ensures.renumbers fit, subst (λ m. Layered g.A.Alphabet.labels m p.count.states (layer t p)) (sym same) c.layers.ensures.completes.layered),
-      (c.in-Some.ensures.finds, c.has-room.ensures.decides.0 c.if-not-has-room.false),
+      (c.in-Some.ensures.finds, c.has_room.ensures.decides.0 c.if-not-has-room.false),
     )
 
 pub returns : goal.returns

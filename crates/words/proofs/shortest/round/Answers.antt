@@ -37,12 +37,12 @@ loop-k-preserved g c =
     let next = λ (u : List State) (more : Bool). Renumbered p.first.states s u × Rounding a m n (layer s p) (layer u p) top (k + 1) more in
     elim c.if-rises.branch [
       | then-rises w ↦
-          let writes = w.set-layer.ensures.writes in
+          let writes = w.set_layer.ensures.writes in
           let is : w.arc.result ≡ arc_in a arcs p k = w.arc.ensures.reads _ in
           subst₂ next (sym w.states-is) (sym w.more-is) (
-            renumbered_more p.first.states s t w.set-layer.new.states c.loop-k.invariant.0 writes.renumbered,
-            rounding_raise a m n fit.inside (layer s p) (layer t p) (layer w.set-layer.new.states p) top k c.loop-k.more (omega (arith, count_arcs s arcs p fit, c.loop-k-test.true)) c.requires.0.1.0 c.loop-k.invariant.1 (c.rises.ensures.decides.0 w.if-rises.true)
-                (ap (λ (b : Arc g.row.A-Label.Denot). layer w.set-layer.new.states p b.from) (sym is) ∙ writes.here) (λ r other. writes.elsewhere r (λ e. other (e ∙ ap (λ (b : Arc g.row.A-Label.Denot). b.from) is))),
+            renumbered_more p.first.states s t w.set_layer.new.states c.loop-k.invariant.0 writes.renumbered,
+            rounding_raise a m n fit.inside (layer s p) (layer t p) (layer w.set_layer.new.states p) top k c.loop-k.more (omega (arith, count_arcs s arcs p fit, c.loop-k-test.true)) c.requires.0.1.0 c.loop-k.invariant.1 (c.rises.ensures.decides.0 w.if-rises.true)
+                (ap (λ (b : Arc g.row.A-Label.Denot). layer w.set_layer.new.states p b.from) (sym is) ∙ writes.here) (λ r other. writes.elsewhere r (λ e. other (e ∙ ap (λ (b : Arc g.row.A-Label.Denot). b.from) is))),
           )
       | else-rises w ↦
           subst₂ next (sym w.states-is) (sym w.more-is) (

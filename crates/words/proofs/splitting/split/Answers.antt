@@ -9,8 +9,8 @@ use Rattle.words.proofs.splitting.split.Goals as goal
 use Rattle.words.proofs.splitting.split.Goals.{After-splits-at, Else-splits-at}
 
 -- the rows that are kept after one place more
-more : (g : given.Over) (c : After-splits-at g) → (n : ℕ) → n ≤ c.args.left.first.states → n ≤ c.args.right.first.states → Renumbered n c.args.states.now c.splits-at.new.states
-more g c n low high = renumbered_more n c.args.states.now c.loop-i.states c.splits-at.new.states (c.loop-i.invariant.0 n low high) (c.splits-at.ensures.renumbers n low high)
+more : (g : given.Over) (c : After-splits-at g) → (n : ℕ) → n ≤ c.args.left.first.states → n ≤ c.args.right.first.states → Renumbered n c.args.states.now c.splits_at.new.states
+more g c n low high = renumbered_more n c.args.states.now c.loop-i.states c.splits_at.new.states (c.loop-i.invariant.0 n low high) (c.splits_at.ensures.renumbers n low high)
 
 -- no place up to this one splits the word
 never : (g : given.Over) (c : Else-splits-at g) → (j : ℕ) → j < c.loop-i.i + 1 → SplitsAt g.A.Alphabet.labels.admits c.args.states.now c.args.arcs.now c.args.used c.args.left c.args.right c.args.word.now j → ⊥
@@ -19,7 +19,7 @@ never g c =
     let splits = SplitsAt admits c.args.states.now c.args.arcs.now c.args.used c.args.left c.args.right c.args.word.now in
     below_more (λ j. splits j → ⊥) c.loop-i.i c.loop-i.invariant.1
     (λ s. both_ways _ c.if-splits-at.false
-    (c.splits-at.ensures.decides.1 (splits_renumbered admits c.args.arcs.now c.args.used c.args.left c.args.right c.args.word.now 0 c.args.states.now c.loop-i.states (c.loop-i.invariant.0 0 (omega arith) (omega arith)) c.loop-i.i s)))
+    (c.splits_at.ensures.decides.1 (splits_renumbered admits c.args.arcs.now c.args.used c.args.left c.args.right c.args.word.now 0 c.args.states.now c.loop-i.states (c.loop-i.invariant.0 0 (omega arith) (omega arith)) c.loop-i.i s)))
 
 pub loop-i-init : goal.loop-i-init
 loop-i-init g c = (λ n _ _. renumbered_none n c.args.states.now, λ j low. absurd (omega arith))
@@ -32,7 +32,7 @@ returns-then-splits-at g c =
     let start = c.args.states.now in
     let states = c.loop-i.states in
     let back = renumbered_back 0 start states (c.loop-i.invariant.0 0 (omega arith) (omega arith)) in
-    let s = splits_renumbered g.A.Alphabet.labels.admits c.args.arcs.now c.args.used c.args.left c.args.right c.args.word.now 0 states start back c.loop-i.i (c.splits-at.ensures.decides.0 c.if-splits-at.true) in
+    let s = splits_renumbered g.A.Alphabet.labels.admits c.args.arcs.now c.args.used c.args.left c.args.right c.args.word.now 0 states start back c.loop-i.i (c.splits_at.ensures.decides.0 c.if-splits-at.true) in
     record {
       finds = (c.loop-i-test.true, s.front, s.back);
       renumbers = more g (goal.at.returns-then-splits-at g c).After-splits-at;

@@ -26,14 +26,14 @@ returns-then-accepts g c =
               in_use = front.0;
               left_stands = front.1;
               right_stands = stands_renumbered n mid start arcs (renumbered_back n start mid there) used right back.1;
-              front = subst (Accepts admits (at start arcs left)) c.split-at.ensures.front front.2;
-              back = subst (λ (m : Automaton g.row.A-Label.Denot). Accepts admits m rest) (at_renumbered n start mid arcs there right) (subst (Accepts admits (at mid arcs right)) c.split-at.ensures.back back.2);
+              front = subst (Accepts admits (at start arcs left)) c.split_at.ensures.front front.2;
+              back = subst (λ (m : Automaton g.row.A-Label.Denot). Accepts admits m rest) (at_renumbered n start mid arcs there right) (subst (Accepts admits (at mid arcs right)) c.split_at.ensures.back back.2);
             },
         λ s.
             c.accepts-then-accepts.ensures.decides.1 (
               in_use_renumbered n start mid arcs there used s.in_use,
               stands_renumbered n start mid arcs there used right s.right_stands,
-              subst (Accepts admits (at mid arcs right)) (sym c.split-at.ensures.back) (subst (λ (m : Automaton g.row.A-Label.Denot). Accepts admits m rest) (sym (at_renumbered n start mid arcs there right)) s.back),
+              subst (Accepts admits (at mid arcs right)) (sym c.split_at.ensures.back) (subst (λ (m : Automaton g.row.A-Label.Denot). Accepts admits m rest) (sym (at_renumbered n start mid arcs there right)) s.back),
             ),
       );
       renumbers = λ m low high. renumbered_more m start mid _ (renumbered_less n m start mid low there) (renumbered_less right.first.states m mid _ high c.accepts-then-accepts.ensures.renumbers);
@@ -47,7 +47,7 @@ returns-else-accepts g c =
     record {
       decides = (
         λ e. absurd (both_ways c.accepts.result c.if-accepts.false e),
-        λ s. c.accepts.ensures.decides.1 (s.in_use, s.left_stands, subst (Accepts admits (at start c.args.arcs.now left)) (sym c.split-at.ensures.front) s.front),
+        λ s. c.accepts.ensures.decides.1 (s.in_use, s.left_stands, subst (Accepts admits (at start c.args.arcs.now left)) (sym c.split_at.ensures.front) s.front),
       );
       renumbers = λ m low high. renumbered_less left.first.states m start c.accepts.new.states low c.accepts.ensures.renumbers;
     }

@@ -9,7 +9,7 @@ pub returns-then-label-c : goal.returns-then-label-c
 returns-then-label-c c =
     let l = c.args.label.now in
     record {
-      is-first = first_some (marked l) _ c.loop-c.c (first_marked l)
+      is_first = first_some (marked l) _ c.loop-c.c (first_marked l)
           (record { inside = and_from _ _ (lt-ltb _ 128 c.loop-c-test.true) c.if-label-c.true; smallest = λ k yes'. ⊎_elim (λ low. absurd (both_ways _ (and_right _ _ (c.loop-c.invariant k low)) yes')) (λ h. h) (cases_lt k c.loop-c.c) });
     }
 
@@ -17,6 +17,6 @@ pub returns : goal.returns
 returns c =
     let l = c.args.label.now in
     record {
-      is-first = first_none (marked l) _ (first_marked l)
+      is_first = first_none (marked l) _ (first_marked l)
           (λ k. ⊎_elim (λ low. and_right _ _ (c.loop-c.invariant k (omega arith))) (λ high. and_left _ _ (le-ltb k 128 high)) (cases_lt k 128));
     }

@@ -4,4 +4,4 @@ use Rattle.alphabet.proofs.modem.ModemAlphabet.meet.Goals as goal
 
 pub returns : goal.returns
 returns c =
-    record { is-meet = marking_all _ c.loop-c.marks c.loop-c.invariant.0 (λ k h. c.loop-c.invariant.1 k (omega arith)) }
+    record { is_meet = marking_all _ c.loop-c.marks c.loop-c.invariant.0 (λ k h. c.loop-c.invariant.1 k (omega arith)) }

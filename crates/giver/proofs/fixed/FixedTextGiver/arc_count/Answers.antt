@@ -4,4 +4,4 @@ use Rattle.giver.proofs.fixed.FixedTextGiver.arc_count.Goals as goal
 
 pub returns : goal.returns
 returns g c =
-    record { counts-arcs = sym (length-chain_arcs g.A.RangedAlphabet.between 0 c.args.self.now.letters.now) }
+    record { counts_arcs = sym (length-chain_arcs g.A.RangedAlphabet.between 0 c.args.self.now.letters.now) }

@@ -4,4 +4,4 @@ use Rattle.giver.proofs.fixed.FixedTextGiver.marks.Goals as goal
 
 pub returns : goal.returns
 returns g c =
-    record { tells-marks = chain_marks_at (length c.args.self.now.letters.now) c.args.state }
+    record { tells_marks = chain_marks_at (length c.args.self.now.letters.now) c.args.state }

@@ -4,4 +4,4 @@ use Rattle.giver.proofs.fixed.FixedTextGiver.state_count.Goals as goal
 
 pub returns : goal.returns
 returns g c =
-    record { counts-states = sym (length-chain_marks (length c.args.self.now.letters.now)) }
+    record { counts_states = sym (length-chain_marks (length c.args.self.now.letters.now)) }

@@ -4,4 +4,4 @@ use Rattle.giver.proofs.table.TableGiver.state_count.Goals as goal
 
 pub returns : goal.returns
 returns g c =
-    record { counts-states = sym (length-map c.args.self.now.states.now (λ s. s.marks)) }
+    record { counts_states = sym (length-map c.args.self.now.states.now (λ s. s.marks)) }
