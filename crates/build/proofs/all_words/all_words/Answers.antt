@@ -6,9 +6,9 @@ use Rattle.build.proofs.Covering.{open_state, loop_arc, covers_built, covers_no_
 use Rattle.build.proofs.Keeping.{kept_none, kept_set}
 use Rattle.build.proofs.all_words.all_words.Goals as goal
 
-pub returns-then-used-state-room : goal.returns-then-used-state-room
-returns-then-used-state-room g c =
-    let use' = c.in_use.ensures.decides.0 c.if-not-in-use.false in
+pub returns-then-used-state_room : goal.returns-then-used-state_room
+returns-then-used-state_room g c =
+    let use' = c.in_use.ensures.decides.0 c.if-not-in_use.false in
     record {
       answers = inl (use', covers_no_states g.A.Alphabet.labels c.args.used c.args.states.now (omega arith));
       accepts_every_word = tt;
@@ -16,9 +16,9 @@ returns-then-used-state-room g c =
       keeps_arcs = kept_none c.args.used.arcs c.args.arcs.now;
     }
 
-pub returns-then-used-arc-room : goal.returns-then-used-arc-room
-returns-then-used-arc-room g c =
-    let use' = c.in_use.ensures.decides.0 c.if-not-in-use.false in
+pub returns-then-used-arc_room : goal.returns-then-used-arc_room
+returns-then-used-arc_room g c =
+    let use' = c.in_use.ensures.decides.0 c.if-not-in_use.false in
     record {
       answers = inl (use', covers_no_arcs g.A.Alphabet.labels c.args.used c.args.states.now c.args.arcs.now (omega arith) (omega arith));
       accepts_every_word = tt;

@@ -25,22 +25,22 @@ marks-requires g c =
     let ends = arc_inside g.A.Alphabet.labels c.args.states.now t job.used job.left ready.in_use ready.left c.loop-x.x c.loop-x-test.true in
     (omega (arith, ready.left.lies.states, ready.in_use.states_fit), omega (arith, ends.1, c.to.ensures.reads (blank g)))
 
-pub lead-on-from-requires : goal.lead-on-from-requires
-lead-on-from-requires g c =
+pub lead_on_from-requires : goal.lead_on_from-requires
+lead_on_from-requires g c =
     let job = c.args.job in
     let s = c.args.states.now in
     let t = c.loop-x.arcs in
-    let ready = ready_arcs job s c.args.arcs.now t c.requires.0 c.loop-x.invariant.0 in
-    ((ready, (c.loop-x-test.true, ap (λ q. (marks_in s job.left q).accepting) (sym (c.to.ensures.reads (blank g))) ∙ ap (λ m. m.accepting) (sym c.marks.ensures.reads) ∙ c.if-marks.true)), c.loop-x.invariant.1)
+    let ready = ready_arcs job s c.args.arcs.now t c.requires.ready c.loop-x.invariant.0 in
+    record { ready = (ready, (c.loop-x-test.true, ap (λ q. (marks_in s job.left q).accepting) (sym (c.to.ensures.reads (blank g))) ∙ ap (λ m. m.accepting) (sym c.marks.ensures.reads) ∙ c.if-marks.true)); written = c.loop-x.invariant.1 }
 
-pub returns-in-err-written : goal.returns-in-err-written
-returns-in-err-written g c =
+pub returns-in_err-written : goal.returns-in_err-written
+returns-in_err-written g c =
     let job = c.args.job in
     let e₁ = job.left.count.arcs in
     let e₂ = job.right.count.arcs in
     record {
       writes = wrote_stopped (concats g.A.Alphabet.labels) (side_of job.left.count.states) (job.left.count.states + job.right.count.states) job c.args.states.now c.args.arcs.now c.loop-x.arcs c.lead_on_from.new.arcs (Copied e₁ e₂ (c.loop-x.x + 1, 0)) (Copied e₁ e₂ (e₁, 0))
-          c.in-err-written.field-0.0 c.from-residual.result c.requires.0 c.loop-x.invariant.0 c.from-residual.ensures.1 c.in-err-written.ensures.writes;
+          c.in_err-written.field-0.0 c.from_residual.result c.requires.ready c.loop-x.invariant.0 c.from_residual.ensures.1 c.in_err-written.ensures.writes;
     }
 
 pub loop-x-preserved : goal.loop-x-preserved

@@ -15,8 +15,8 @@ use Rattle.build.proofs.concat.lead_on_from.Goals.{then-marks+in_ok-written, els
 abbrev blank : (g : given.Over) → Arc g.row.A-Label.Denot
 blank g = record { from = 0; label = g.A.Alphabet.labels.full; to = 0 }
 
-pub returns-in-err-written : goal.returns-in-err-written
-returns-in-err-written g c =
+pub returns-in_err-written : goal.returns-in_err-written
+returns-in_err-written g c =
     let a = g.A.Alphabet.labels in
     let job = c.args.job in
     let s = c.args.states.now in
@@ -24,13 +24,13 @@ returns-in-err-written g c =
     let t = c.loop-q.arcs in
     let x = c.args.x in
     let kept = c.loop-q.invariant.0 in
-    let ready = ready_arcs job s arcs t c.requires.0.0 kept in
+    let ready = ready_arcs job s arcs t c.requires.ready.0 kept in
     let d = blank g in
-    let enters = enters_still a job s arcs t c.requires.0.0 kept x c.requires.0.1.1 in
-    let stop = pushed_led a job s t c.push.new.arcs ready c.loop-q.written _ (Err c.in-err-written.field-0.0) c.in-err-written.ensures.pushes x c.loop-q.q c.requires.0.1.0 c.loop-q-test.true enters (ap (λ m. m.initial) (sym c.marks.ensures.reads) ∙ c.if-marks.true) (c.from.ensures.reads d) (c.label.ensures.reads d) refl c.loop-q.invariant.1 in
+    let enters = enters_still a job s arcs t c.requires.ready.0 kept x c.requires.ready.1.1 in
+    let stop = pushed_led a job s t c.push.new.arcs ready c.loop-q.written _ (Err c.in_err-written.field-0.0) c.in_err-written.ensures.pushes x c.loop-q.q c.requires.ready.1.0 c.loop-q-test.true enters (ap (λ m. m.initial) (sym c.marks.ensures.reads) ∙ c.if-marks.true) (c.from.ensures.reads d) (c.label.ensures.reads d) refl c.loop-q.invariant.1 in
     record {
       writes = wrote_stopped (concats a) (side_of job.left.count.states) (job.left.count.states + job.right.count.states) job s arcs t c.push.new.arcs (Copied job.left.count.arcs job.right.count.arcs (x, c.loop-q.q + 1)) (Copied job.left.count.arcs job.right.count.arcs (x + 1, 0))
-          c.in-err-written.field-0.0 c.from-residual.result c.requires.0.0 kept c.from-residual.ensures.1 stop;
+          c.in_err-written.field-0.0 c.from_residual.result c.requires.ready.0 kept c.from_residual.ensures.1 stop;
     }
 
 pub loop-q-preserved : goal.loop-q-preserved

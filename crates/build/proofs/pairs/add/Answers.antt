@@ -8,18 +8,18 @@ use Rattle.build.proofs.Finding.{found_has, missing}
 use Rattle.build.proofs.pairs.add.Given as given
 use Rattle.build.proofs.pairs.add.Goals as goal
 
-pub returns-then-is-some : goal.returns-then-is-some
-returns-then-is-some g c =
+pub returns-then-is_some : goal.returns-then-is_some
+returns-then-is_some g c =
     record {
-      adds = (c.requires.0.1, grown_none c.args.job c.args.states.now c.args.n, found_has c.args.job c.args.states.now c.args.n c.args.p c.args.q (omega (arith, c.requires.0.1.room)) c.find.result c.find.ensures.finds (sym c.if-is-some.ensures));
+      adds = (c.requires.ready.1, grown_none c.args.job c.args.states.now c.args.n, found_has c.args.job c.args.states.now c.args.n c.args.p c.args.q (omega (arith, c.requires.ready.1.room)) c.find.result c.find.ensures.finds (sym c.if-is_some.ensures));
     }
 
-pub returns-then-at-state-room : goal.returns-then-at-state-room
-returns-then-at-state-room g c =
+pub returns-then-at-state_room : goal.returns-then-at-state_room
+returns-then-at-state_room g c =
     record {
       adds = (
         kept_none c.args.job.used.states c.args.states.now,
-        no_room g.A.Alphabet.labels c.args.job c.args.arcs.now c.args.states.now c.args.n c.args.p c.args.q c.requires.0.0 c.requires.0.1 c.requires.1 (missing _ _ c.find.result c.find.ensures.finds (sym c.if-is-some.ensures)) (omega arith),
+        no_room g.A.Alphabet.labels c.args.job c.args.arcs.now c.args.states.now c.args.n c.args.p c.args.q c.requires.ready.0 c.requires.ready.1 c.requires.fact (missing _ _ c.find.result c.find.ensures.finds (sym c.if-is_some.ensures)) (omega arith),
       );
     }
 

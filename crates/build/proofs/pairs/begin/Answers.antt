@@ -7,22 +7,22 @@ use Rattle.build.proofs.Exploring.{BegunTo, ready_kept, left_kept, right_kept, s
 use Rattle.build.proofs.pairs.begin.Goals as goal
 use Rattle.build.proofs.pairs.begin.Goals.{then-marks+in_ok-built, else-marks}
 
-pub begin-at-requires : goal.begin-at-requires
-begin-at-requires g c =
+pub begin_at-requires : goal.begin_at-requires
+begin_at-requires g c =
     let a = g.A.Alphabet.labels in
     let s = c.args.states.now in
     let ready = ready_kept a c.args.job c.args.arcs.now s c.loop-p.states c.requires c.loop-p.invariant.1.kept in
-    ((ready, c.loop-p.invariant.0), (c.loop-p-test.true, ap (λ m. m.initial) (sym c.marks.ensures.reads) ∙ c.if-marks.true))
+    record { ready = (ready, c.loop-p.invariant.0); p_lt_states = (c.loop-p-test.true, ap (λ m. m.initial) (sym c.marks.ensures.reads) ∙ c.if-marks.true) }
 
-pub returns-in-err-built : goal.returns-in-err-built
-returns-in-err-built g c =
+pub returns-in_err-built : goal.returns-in_err-built
+returns-in_err-built g c =
     let job = c.args.job in
     let arcs = c.args.arcs.now in
     let s = c.args.states.now in
     let t = c.loop-p.states in
     record {
       begins = stopped_by g.A.Alphabet.labels job arcs s t c.begin_at.new.states 0 c.loop-p.built (BegunAt (right_of job t arcs) c.loop-p.p) (Begun (left_of job s arcs) (right_of job s arcs))
-          c.in-err-built.field-0.0 c.from-residual.result c.requires c.loop-p.invariant.1.kept c.from-residual.ensures.1 c.in-err-built.ensures.begins;
+          c.in_err-built.field-0.0 c.from_residual.result c.requires c.loop-p.invariant.1.kept c.from_residual.ensures.1 c.in_err-built.ensures.begins;
     }
 
 pub loop-p-preserved : goal.loop-p-preserved

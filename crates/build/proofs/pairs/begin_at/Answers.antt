@@ -25,13 +25,13 @@ add-requires g c =
       p_lt_states = (c.requires.p_lt_states.0, c.loop-q-test.true);
     })
 
-pub returns-in-err-built : goal.returns-in-err-built
-returns-in-err-built g c =
+pub returns-in_err-built : goal.returns-in_err-built
+returns-in_err-built g c =
     let s = c.args.states.now in
     let p = c.args.p in
     record {
       begins = stopped_by g.A.Alphabet.labels c.args.job c.args.arcs.now s c.loop-q.states c.add.new.states c.args.n c.loop-q.built (λ ps. Has ps (p, c.loop-q.q)) (BegunAt (right_of c.args.job s c.args.arcs.now) p)
-          c.in-err-built.field-0.0 c.from-residual.result c.requires.0.0 c.loop-q.invariant.1.kept c.from-residual.ensures.1 c.in-err-built.ensures.adds;
+          c.in_err-built.field-0.0 c.from_residual.result c.requires.ready.0 c.loop-q.invariant.1.kept c.from_residual.ensures.1 c.in_err-built.ensures.adds;
     }
 
 pub loop-q-preserved : goal.loop-q-preserved

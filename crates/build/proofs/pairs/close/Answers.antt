@@ -11,8 +11,8 @@ use Rattle.build.proofs.pairs.close.Goals as goal
 abbrev blank : State
 blank = record { marks = unmarked; left = 0; right = 0 }
 
-pub close-at-requires : goal.close-at-requires
-close-at-requires g c =
+pub close_at-requires : goal.close_at-requires
+close_at-requires g c =
     let a = g.A.Alphabet.labels in
     let job = c.args.job in
     let arcs = c.args.arcs.now in
@@ -20,13 +20,10 @@ close-at-requires g c =
     let so = c.loop-i.invariant.0 in
     let i = c.loop-i.i in
     let m = c.loop-i.built in
-    let fits : job.used.states + m ≤ length t = omega (arith, so.0.room) in (
-      (ready_kept a job arcs c.args.states.now t c.requires.0 so.1.kept, so.0),
-      subst (λ x. (product_of a job t arcs).State x) (pair_at job t m i blank fits c.loop-i-test.true) (All-get_or (λ x. (product_of a job t arcs).State x) (pairs job t m) i (0, 0) (omega (arith, length_pairs job t m fits, c.loop-i-test.true)) so.0.reached),
-    )
+    let fits : job.used.states + m ≤ length t = omega (arith, so.0.room) in record { ready = (ready_kept a job arcs c.args.states.now t c.requires.0 so.1.kept, so.0); fact = subst (λ x. (product_of a job t arcs).State x) (pair_at job t m i blank fits c.loop-i-test.true) (All-get_or (λ x. (product_of a job t arcs).State x) (pairs job t m) i (0, 0) (omega (arith, length_pairs job t m fits, c.loop-i-test.true)) so.0.reached) }
 
-pub returns-in-err-built : goal.returns-in-err-built
-returns-in-err-built g c =
+pub returns-in_err-built : goal.returns-in_err-built
+returns-in_err-built g c =
     let a = g.A.Alphabet.labels in
     let job = c.args.job in
     let arcs = c.args.arcs.now in
@@ -35,7 +32,7 @@ returns-in-err-built g c =
     let row = get_or t (job.used.states + c.loop-i.i) blank in
     record {
       closes = stopped_by a job arcs s t c.close_at.new.states c.args.n c.loop-i.built (ClosedAt a (left_of job t arcs) (right_of job t arcs) (row.left, row.right)) (Closed a (left_of job s arcs) (right_of job s arcs))
-          c.in-err-built.field-0.0 c.from-residual.result c.requires.0 c.loop-i.invariant.0.1.kept c.from-residual.ensures.1 c.in-err-built.ensures.closes;
+          c.in_err-built.field-0.0 c.from_residual.result c.requires.0 c.loop-i.invariant.0.1.kept c.from_residual.ensures.1 c.in_err-built.ensures.closes;
     }
 
 pub loop-i-preserved : goal.loop-i-preserved

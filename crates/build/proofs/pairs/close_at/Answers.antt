@@ -9,8 +9,8 @@ use Rattle.build.proofs.Exploring.{ClosedTo, ready_kept, operands_kept, arcs_cou
 use Rattle.build.proofs.pairs.close_at.Goals as goal
 use Rattle.build.proofs.pairs.close_at.Goals.{then-from-p+in_ok-built, else-from-p}
 
-pub close-by-requires : goal.close-by-requires
-close-by-requires g c =
+pub close_by-requires : goal.close_by-requires
+close_by-requires g c =
     let a = g.A.Alphabet.labels in
     let job = c.args.job in
     let arcs = c.args.arcs.now in
@@ -18,13 +18,10 @@ close-by-requires g c =
     let t = c.loop-x.states in
     let kept = c.loop-x.invariant.1.kept in
     let d : Arc g.row.A-Label.Denot = record { from = 0; label = a.full; to = 0 } in
-    let source = operands_kept a job arcs s t c.requires.0.0 kept (λ m k. Reachable a (rows a m) (rows a k) c.args.p c.args.q) c.requires.1 in (
-      (ready_kept a job arcs s t c.requires.0.0 kept, c.loop-x.invariant.0),
-      (c.loop-x-test.true, subst (λ p. Reachable a (rows a (left_of job t arcs)) (rows a (right_of job t arcs)) p c.args.q) (sym c.if-from-p.true ∙ c.from.ensures.reads d) source),
-    )
+    let source = operands_kept a job arcs s t c.requires.ready.0 kept (λ m k. Reachable a (rows a m) (rows a k) c.args.p c.args.q) c.requires.fact in record { ready = (ready_kept a job arcs s t c.requires.ready.0 kept, c.loop-x.invariant.0); x_lt_arcs = (c.loop-x-test.true, subst (λ p. Reachable a (rows a (left_of job t arcs)) (rows a (right_of job t arcs)) p c.args.q) (sym c.if-from-p.true ∙ c.from.ensures.reads d) source) }
 
-pub returns-in-err-built : goal.returns-in-err-built
-returns-in-err-built g c =
+pub returns-in_err-built : goal.returns-in_err-built
+returns-in_err-built g c =
     let a = g.A.Alphabet.labels in
     let job = c.args.job in
     let arcs = c.args.arcs.now in
@@ -32,7 +29,7 @@ returns-in-err-built g c =
     let t = c.loop-x.states in
     record {
       closes = stopped_by a job arcs s t c.close_by.new.states c.args.n c.loop-x.built (ClosedBy a (left_of job t arcs) (right_of job t arcs) c.loop-x.x c.args.q) (ClosedAt a (left_of job s arcs) (right_of job s arcs) (c.args.p, c.args.q))
-          c.in-err-built.field-0.0 c.from-residual.result c.requires.0.0 c.loop-x.invariant.1.kept c.from-residual.ensures.1 c.in-err-built.ensures.closes;
+          c.in_err-built.field-0.0 c.from_residual.result c.requires.ready.0 c.loop-x.invariant.1.kept c.from_residual.ensures.1 c.in_err-built.ensures.closes;
     }
 
 pub loop-x-preserved : goal.loop-x-preserved

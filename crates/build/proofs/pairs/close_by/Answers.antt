@@ -32,15 +32,15 @@ add-requires g c =
       p_lt_states = (omega (arith, left.1, c.to-p.ensures.reads d), omega (arith, right.1, c.to.ensures.reads d));
     })
 
-pub returns-in-err-built : goal.returns-in-err-built
-returns-in-err-built g c =
+pub returns-in_err-built : goal.returns-in_err-built
+returns-in_err-built g c =
     let a = g.A.Alphabet.labels in
     let job = c.args.job in
     let arcs = c.args.arcs.now in
     let s = c.args.states.now in
     record {
       closes = stopped_by a job arcs s c.loop-y.states c.add.new.states c.args.n c.loop-y.built (λ ps. Has ps (c.to-p.result, c.to.result)) (ClosedBy a (left_of job s arcs) (right_of job s arcs) c.args.x c.args.q)
-          c.in-err-built.field-0.0 c.from-residual.result c.requires.0.0 c.loop-y.invariant.1.kept c.from-residual.ensures.1 c.in-err-built.ensures.adds;
+          c.in_err-built.field-0.0 c.from_residual.result c.requires.ready.0 c.loop-y.invariant.1.kept c.from_residual.ensures.1 c.in_err-built.ensures.adds;
     }
 
 pub loop-y-preserved : goal.loop-y-preserved

@@ -11,23 +11,23 @@ emit-requires g c =
     let arcs = c.args.arcs.now in
     paired g.A.Alphabet.labels c.args.job c.args.states.now c.explore.new.states arcs arcs c.in_ok-n.n c.requires c.in_ok-n.ensures.explores
 
-pub returns-in-err-n : goal.returns-in-err-n
-returns-in-err-n g c =
+pub returns-in_err-n : goal.returns-in_err-n
+returns-in_err-n g c =
     let a = g.A.Alphabet.labels in
     let job = c.args.job in
     let arcs = c.args.arcs.now in
     let s = c.args.states.now in
-    let stop = explore_stopped a job s c.explore.new.states arcs arcs (λ ps. Numbers (product_of a job s arcs).State (length ps) (λ i. get_or ps i (0, 0))) c.in-err-n.field-0.0 c.from-residual.result c.from-residual.ensures.1 c.in-err-n.ensures.explores in
+    let stop = explore_stopped a job s c.explore.new.states arcs arcs (λ ps. Numbers (product_of a job s arcs).State (length ps) (λ i. get_or ps i (0, 0))) c.in_err-n.field-0.0 c.from_residual.result c.from_residual.ensures.1 c.in_err-n.ensures.explores in
     record { builds = stop.0; keeps_states = stop.1; keeps_arcs = kept_none job.used.arcs arcs }
 
-pub returns-in-err-e : goal.returns-in-err-e
-returns-in-err-e g c =
+pub returns-in_err-e : goal.returns-in_err-e
+returns-in_err-e g c =
     let a = g.A.Alphabet.labels in
     let job = c.args.job in
     let arcs = c.args.arcs.now in
     let s = c.args.states.now in
-    let explored = c.in-ok-n.ensures.explores in
-    let stop = emit_stopped a job s c.explore.new.states arcs c.emit.new.arcs c.in-ok-n.n c.requires explored (Before job.left.count.arcs 0) c.in-err-e.field-0.0 c.from-residual-in-err-e.result c.from-residual-in-err-e.ensures.1 c.in-err-e.ensures.writes in
+    let explored = c.in_ok-n.ensures.explores in
+    let stop = emit_stopped a job s c.explore.new.states arcs c.emit.new.arcs c.in_ok-n.n c.requires explored (Before job.left.count.arcs 0) c.in_err-e.field-0.0 c.from_residual-in_err-e.result c.from_residual-in_err-e.ensures.1 c.in_err-e.ensures.writes in
     record { builds = stop.0; keeps_states = explored.1.kept; keeps_arcs = stop.1 }
 
 pub returns : goal.returns

@@ -9,15 +9,15 @@ use Rattle.build.proofs.product.emit_arc.Goals as goal
 pub loop-y-init : goal.loop-y-init
 loop-y-init g c = (kept_none c.args.job.used.arcs c.args.arcs.now, c.requires.paired.1)
 
-pub emit-pair-requires : goal.emit-pair-requires
-emit-pair-requires g c =
-    ((paired_arcs c.args.job c.args.states.now c.args.arcs.now c.loop-y.arcs c.requires.0.0.ready c.loop-y.invariant.0 g.A.Alphabet.labels c.args.n c.requires.0.0, c.loop-y.invariant.1), (c.requires.1, c.loop-y-test.true))
+pub emit_pair-requires : goal.emit_pair-requires
+emit_pair-requires g c =
+    record { paired = (paired_arcs c.args.job c.args.states.now c.args.arcs.now c.loop-y.arcs c.requires.paired.0.ready c.loop-y.invariant.0 g.A.Alphabet.labels c.args.n c.requires.paired.0, c.loop-y.invariant.1); x_lt_arcs = (c.requires.x_lt_arcs, c.loop-y-test.true) }
 
-pub returns-in-err-written : goal.returns-in-err-written
-returns-in-err-written g c =
+pub returns-in_err-written : goal.returns-in_err-written
+returns-in_err-written g c =
     record {
       writes = wrote_stopped (products g.A.Alphabet.labels) (name_of c.args.job c.args.states.now c.args.n) c.args.n c.args.job c.args.states.now c.args.arcs.now c.loop-y.arcs c.emit_pair.new.arcs (Before c.args.x (c.loop-y.y + 1)) (Before (c.args.x + 1) 0)
-          c.in-err-written.field-0.0 c.from-residual.result c.requires.0.0.ready c.loop-y.invariant.0 c.from-residual.ensures.1 c.in-err-written.ensures.writes;
+          c.in_err-written.field-0.0 c.from_residual.result c.requires.paired.0.ready c.loop-y.invariant.0 c.from_residual.ensures.1 c.in_err-written.ensures.writes;
     }
 
 pub loop-y-preserved : goal.loop-y-preserved

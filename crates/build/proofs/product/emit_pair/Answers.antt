@@ -33,8 +33,8 @@ returns-then-not-meets g c =
       );
     }
 
-pub returns-in-default : goal.returns-in-default
-returns-in-default g c =
+pub returns-in_default : goal.returns-in_default
+returns-in_default g c =
     let a = g.A.Alphabet.labels in
     let job = c.args.job in
     let arcs = c.args.arcs.now in
@@ -44,7 +44,7 @@ returns-in-default g c =
     record {
       writes = (
         kept_none job.used.arcs arcs,
-        passed a job s c.args.n arcs c.args.e c.args.x c.args.y c.requires.0.1 (λ arrow. c.in-default.ensures.finds (subst (Has (pairs job s c.args.n)) sides (paired_has a job s arcs c.args.n _ c.requires.0.0 arrow.2))),
+        passed a job s c.args.n arcs c.args.e c.args.x c.args.y c.requires.paired.1 (λ arrow. c.in_default.ensures.finds (subst (Has (pairs job s c.args.n)) sides (paired_has a job s arcs c.args.n _ c.requires.paired.0 arrow.2))),
       );
     }
 
