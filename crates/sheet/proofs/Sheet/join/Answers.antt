@@ -30,14 +30,11 @@ ok c no' =
     let s = c.args.self.now in
     no_circle (take s.counts.joins s.joins) c.args.join s.acyclic (not_from_Decides c.closes.result c.closes.ensures.decides no')
 
-pub invariant-of-self : goal.invariant-of-self
-invariant-of-self c =
+pub invariant_of-self : goal.invariant_of-self
+invariant_of-self c =
     let s = c.args.self.now in
-    let d = (goal.at.invariant-of-self c).After-closes in
-    let known : Known s.counts.parts (take s.counts.joins s.joins ++ c.args.join ∷ []) = λ j has. ⊎_elim (λ old. s.known j old) (λ same. subst (λ i. (i.whole < s.counts.parts) × (i.left < s.counts.parts) × (i.right < s.counts.parts)) same (omega arith, omega arith, omega arith)) (has_push_cases (take s.counts.joins s.joins) c.args.join j has) in (
-      s.few_parts,
-      (s.few_patterns, (omega arith, (s.few_states, (s.few_arcs, (s.long_patterns, (length-set s.joins s.counts.joins c.args.join ∙ s.long_joins, (s.for_parts, (s.among, (subst (Known s.counts.parts) (sym (pushed d)) known, (subst Acyclic (sym (pushed d)) (ok d c.if-closes.false), tt)))))))))),
-    )
+    let d = (goal.at.invariant_of-self c).After-closes in
+    let known : Known s.counts.parts (take s.counts.joins s.joins ++ c.args.join ∷ []) = λ j has. ⊎_elim (λ old. s.known j old) (λ same. subst (λ i. (i.whole < s.counts.parts) × (i.left < s.counts.parts) × (i.right < s.counts.parts)) same (omega arith, omega arith, omega arith)) (has_push_cases (take s.counts.joins s.joins) c.args.join j has) in record { few_parts = s.few_parts; few_patterns = s.few_patterns; few_joins = omega arith; few_states = s.few_states; few_arcs = s.few_arcs; long_patterns = s.long_patterns; long_joins = length-set s.joins s.counts.joins c.args.join ∙ s.long_joins; for_parts = s.for_parts; among = s.among; known = subst (Known s.counts.parts) (sym (pushed d)) known; acyclic = subst Acyclic (sym (pushed d)) (ok d c.if-closes.false) }
 
 pub returns : goal.returns
 returns c =

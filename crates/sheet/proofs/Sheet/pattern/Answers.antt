@@ -5,23 +5,20 @@ use Rattle.sheet.specs.Patterns.{Among, ForParts}
 use Rattle.sheet.proofs.Holding.{for_parts_and, among_and}
 use Rattle.sheet.proofs.Sheet.pattern.Goals as goal
 
-pub invariant-of-self : goal.invariant-of-self
-invariant-of-self g c =
+pub invariant_of-self : goal.invariant_of-self
+invariant_of-self g c =
     let s = c.args.self.now in
     let room = c.if-not-fits.ensures.decides.0 refl in
     let states = c.state_count.ensures.counts_states in
     let arcs = c.arc_count.ensures.counts_arcs in
     let h : Held = record { part = c.args.part; place = record { first = s.counts.held; count = record { states = c.state_count.result; arcs = c.arc_count.result } } } in
-    let pushed = take_more_set s.patterns s.counts.patterns h (omega (arith, s.long_patterns)) in (
-      s.few_parts,
-      (omega arith, (s.few_joins, (omega (arith, room.states_fit, states), (omega (arith, room.arcs_fit, arcs), (length-set s.patterns s.counts.patterns h ∙ s.long_patterns, (s.long_joins, (subst (ForParts s.counts.parts) (sym pushed) (for_parts_and s.counts.parts (take s.counts.patterns s.patterns) h s.for_parts (omega arith)), (subst (Among (record { states = s.counts.held.states + c.state_count.result; arcs = s.counts.held.arcs + c.arc_count.result })) (sym pushed) (among_and s.counts.held (take s.counts.patterns s.patterns) c.args.part c.state_count.result c.arc_count.result s.among), (s.known, (s.acyclic, tt)))))))))),
-    )
+    let pushed = take_more_set s.patterns s.counts.patterns h (omega (arith, s.long_patterns)) in record { few_parts = s.few_parts; few_patterns = omega arith; few_joins = s.few_joins; few_states = omega (arith, room.states_fit, states); few_arcs = omega (arith, room.arcs_fit, arcs); long_patterns = length-set s.patterns s.counts.patterns h ∙ s.long_patterns; long_joins = s.long_joins; for_parts = subst (ForParts s.counts.parts) (sym pushed) (for_parts_and s.counts.parts (take s.counts.patterns s.patterns) h s.for_parts (omega arith)); among = subst (Among (record { states = s.counts.held.states + c.state_count.result; arcs = s.counts.held.arcs + c.arc_count.result })) (sym pushed) (among_and s.counts.held (take s.counts.patterns s.patterns) c.args.part c.state_count.result c.arc_count.result s.among); known = s.known; acyclic = s.acyclic }
 
 pub returns : goal.returns
 returns g c =
     let s = c.args.self.now in
     let room = c.if-not-fits.ensures.decides.0 refl in
-    let sound = c.in-default.ensures.checked.0 in
+    let sound = c.in_default.ensures.checked.0 in
     let states = c.state_count.ensures.counts_states in
     let arcs = c.arc_count.ensures.counts_arcs in
     let h : Held = record { part = c.args.part; place = record { first = s.counts.held; count = record { states = c.state_count.result; arcs = c.arc_count.result } } } in

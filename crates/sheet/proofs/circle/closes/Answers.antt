@@ -12,7 +12,7 @@ use Rattle.sheet.proofs.circle.closes.Goals.{In-Some}
 
 -- the parts of the join that was found
 ends : (c : In-Some) → let j = get_or c.args.joins.now c.in-Some.k none in (j.whole < 64) × (j.left < 64) × (j.right < 64)
-ends c = c.requires.0.1 _ (held_at c.args.joins.now c.args.n none (omega (arith, c.requires.0.0, c.told-joins)) c.in-Some.k c.in-Some.ensures.finds.0)
+ends c = c.requires.n_bound.1 _ (held_at c.args.joins.now c.args.n none (omega (arith, c.requires.n_bound.0, c.told-joins)) c.in-Some.k c.in-Some.ensures.finds.0)
 
 pub bounds-marks-join : goal.bounds-marks-join
 bounds-marks-join c = (ends (goal.at.bounds-marks-join c).In-Some).1
@@ -27,8 +27,8 @@ loop-k-init c =
     let right = c.args.right in
     let m₁ = set m₀ left true in
     let long : length m₁ ≡ 64 = length-set m₀ left true in
-    let low : left < 64 = c.requires.1.0 in
-    let low' : right < length m₁ = omega (arith, c.requires.1.1.0) in (
+    let low : left < 64 = c.requires.left_bound.0 in
+    let low' : right < length m₁ = omega (arith, c.requires.left_bound.1.0) in (
       length-set m₁ right true ∙ long,
       mark_keeps m₁ right left low' (get_or-set_same m₀ left true false low),
       get_or-set_same m₁ right true false low',
@@ -45,7 +45,7 @@ loop-k-preserved c =
     let parts = ends (goal.at.loop-k-preserved c).In-Some in
     let m₁ = set marks j.left true in
     let js = take c.args.n joins in
-    let held = held_at joins c.args.n none (omega (arith, c.requires.0.0, c.told-joins)) c.in-Some.k found.0 in
+    let held = held_at joins c.args.n none (omega (arith, c.requires.n_bound.0, c.told-joins)) c.in-Some.k found.0 in
     let low : j.left < length marks = omega (arith, parts.1, inv.0) in
     let low' : j.right < length m₁ = omega (arith, parts.2, inv.0, length-set marks j.left true) in
     let from = inv.3 j.whole found.1 in (
@@ -71,8 +71,8 @@ returns c =
     let marks = c.loop-k.marks in
     let inv = c.loop-k.invariant in
     let js = take c.args.n joins in
-    let fits : c.args.n ≤ length joins = omega (arith, c.requires.0.0, c.told-joins) in
-    let settled = λ (j : Join) (has : Has js j). let at = held_place joins c.args.n none fits j has in subst (Settled marks) at.2 (c.in-default.ensures.finds at.0 at.1) in
+    let fits : c.args.n ≤ length joins = omega (arith, c.requires.n_bound.0, c.told-joins) in
+    let settled = λ (j : Join) (has : Has js j). let at = held_place joins c.args.n none fits j has in subst (Settled marks) at.2 (c.in_default.ensures.finds at.0 at.1) in
     record {
       decides = (
         inv.3 c.args.x,

@@ -17,8 +17,8 @@ start-requires g c =
     let both = c.stands.ensures.decides.0 c.if-not-stands.false in
     fit_renumbered c.args.arcs.now c.args.p c.layers.ensures.renumbers (fit_stands c.args.states.now c.args.arcs.now c.args.used c.args.p both.0 both.1)
 
-pub returns-in-default : goal.returns-in-default
-returns-in-default g c =
+pub returns-in_default : goal.returns-in_default
+returns-in_default g c =
     let s = c.args.states.now in
     let t = c.layers.new.states in
     let arcs = c.args.arcs.now in
@@ -29,7 +29,7 @@ returns-in-default g c =
     let same = at_renumbered _ _ _ arcs c.layers.ensures.renumbers p in
     record {
       finds = (
-        λ _ _ _ w x. none_accepted g.met.A.Alphabet.lawful m p.count.states (layer t p) c.layers.ensures.completes (count_states s arcs p fit) (λ q low yes'. c.in-default.ensures.finds q low (ap (λ k. initial k q) same ∙ yes')) w x,
+        λ _ _ _ w x. none_accepted g.met.A.Alphabet.lawful m p.count.states (layer t p) c.layers.ensures.completes (count_states s arcs p fit) (λ q low yes'. c.in_default.ensures.finds q low (ap (λ k. initial k q) same ∙ yes')) w x,
         refl,
       );
       renumbers = c.layers.ensures.renumbers;
@@ -42,10 +42,7 @@ spell-requires g c =
     let t = c.layers.new.states in
     let both = c.stands.ensures.decides.0 c.if-not-stands.false in
     let fit = fit_stands c.args.states.now arcs c.args.used p both.0 both.1 in
-    let same = at_renumbered _ _ _ arcs c.layers.ensures.renumbers p in (
-      (fit_renumbered arcs p c.layers.ensures.renumbers fit, subst (λ m. Layered g.A.Alphabet.labels m p.count.states (layer t p)) (sym same) c.layers.ensures.completes.layered),
-      (c.in-Some.ensures.finds, c.has_room.ensures.decides.0 c.if-not-has-room.false),
-    )
+    let same = at_renumbered _ _ _ arcs c.layers.ensures.renumbers p in record { fit = (fit_renumbered arcs p c.layers.ensures.renumbers fit, subst (λ m. Layered g.A.Alphabet.labels m p.count.states (layer t p)) (sym same) c.layers.ensures.completes.layered); start = (c.in-Some.ensures.finds, c.has_room.ensures.decides.0 c.if-not-has_room.false) }
 
 pub returns : goal.returns
 returns g c =

@@ -26,13 +26,10 @@ round-requires g c =
     let p = c.args.p in
     let n = p.count.states in
     let inv = c.loop-p.invariant in
-    let f = layer c.loop-p.states p in (
-      (fit_renumbered arcs p (renumbered_more _ _ _ _ c.begin.ensures.renumbers inv.0) c.requires, (inv.2, omega (arith, inv.3, count_low f n, c.requires.few))),
-      subst (λ m. Upto g.A.Alphabet.labels m n f c.loop-p.top) (sym (at_renumbered _ _ _ arcs inv.0 p)) inv.1,
-    )
+    let f = layer c.loop-p.states p in record { fit = (fit_renumbered arcs p (renumbered_more _ _ _ _ c.begin.ensures.renumbers inv.0) c.requires, (inv.2, omega (arith, inv.3, count_low f n, c.requires.few))); upto = subst (λ m. Upto g.A.Alphabet.labels m n f c.loop-p.top) (sym (at_renumbered _ _ _ arcs inv.0 p)) inv.1 }
 
-pub overflow-add-top : goal.overflow-add-top
-overflow-add-top g c = omega (arith, c.loop-p.invariant.3, count_low (layer c.loop-p.states c.args.p) c.args.p.count.states, c.requires.few)
+pub overflow_add-top : goal.overflow_add-top
+overflow_add-top g c = omega (arith, c.loop-p.invariant.3, count_low (layer c.loop-p.states c.args.p) c.args.p.count.states, c.requires.few)
 
 pub loop-p-smaller : goal.loop-p-smaller
 loop-p-smaller g c =
