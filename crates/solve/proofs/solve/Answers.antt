@@ -17,13 +17,13 @@ use Rattle.solve.proofs.Answering.{Answered, stopped_answered, ready, judged_ans
 use Rattle.solve.proofs.solve.Given as given
 use Rattle.solve.proofs.solve.Goals as goal
 
-pub returns-then-not-is-whole : goal.returns-then-not-is-whole
-returns-then-not-is-whole g c =
+pub returns-then-not-is_whole : goal.returns-then-not-is_whole
+returns-then-not-is_whole g c =
     let v = view c.args.sheet.now in
     let s = c.args.states.now in
     let e = c.args.arcs.now in
     record {
-      answers = inl (refl, not_from_Decides c.is_whole.result c.is_whole.ensures.decides c.if-not-is-whole.true);
+      answers = inl (refl, not_from_Decides c.is_whole.result c.is_whole.ensures.decides c.if-not-is_whole.true);
       only_answer = tt;
       keeps_held_states = kept_none v.held.states s;
       keeps_held_arcs = kept_none v.held.arcs e;
@@ -44,7 +44,7 @@ returns-then-report-counts g c =
     let s = c.args.states.now in
     let e = c.args.arcs.now in
     record {
-      answers = inr (c.if-not-is-whole.ensures.decides.0 refl, inl (refl, λ fits. omega (arith, fits, c.if-report-counts.true, ap (λ x. x.parts) c.counts-counts.ensures.counted)));
+      answers = inr (c.if-not-is_whole.ensures.decides.0 refl, inl (refl, λ fits. omega (arith, fits, c.if-report-counts.true, ap (λ x. x.parts) c.counts-counts.ensures.counted)));
       only_answer = tt;
       keeps_held_states = kept_none v.held.states s;
       keeps_held_arcs = kept_none v.held.arcs e;
@@ -103,7 +103,7 @@ returns-in-Ok g c =
     let sums = sym (c.totals.ensures.counts ∙ ap (λ (h : Rows). totals h used) held) in
     let is : ◌≡◌ {A = Solved} (record { verdict = x; totals = totals v.held used }) (record { verdict = x; totals = c.totals.result }) = λ i. record { verdict = x; totals = sums i } in
     let done = subst (Answered a v s₀ e₀ s' e r r' ws ws') is all in
-    let whole = c.if-not-is-whole.ensures.decides.0 refl in
+    let whole = c.if-not-is_whole.ensures.decides.0 refl in
     record {
       answers = ((whole, (omega (arith, c.if-report-counts.false, counted), tt)), done.given);
       only_answer = only a v s₀ e₀ (length ws) _ whole done.given;
@@ -139,7 +139,7 @@ returns-in-Err g c =
     let stopped_at : Rows → Solved = λ h. record { verdict = stop_verdict ended.part ended.halt; totals = totals h (used_of ended.halt) } in
     let is = sym (c.stopped.ensures.names ∙ ap stopped_at held) in
     let done = subst (Answered a v s₀ e₀ s e r r ws ws) is all in
-    let whole = c.if-not-is-whole.ensures.decides.0 refl in
+    let whole = c.if-not-is_whole.ensures.decides.0 refl in
     record {
       answers = ((whole, (omega (arith, c.if-report-counts.false, counted), tt)), done.given);
       only_answer = only a v s₀ e₀ (length ws) c.stopped.result whole done.given;

@@ -45,8 +45,8 @@ below g c =
     let less = fewer hs v.parts c.in-Some.part inv.0.below inv.0.once found.0 found.1.unfinished in
     (omega (arith, less, long), omega (arith, less, long, few))
 
-pub build-part-requires : goal.build-part-requires
-build-part-requires g c =
+pub build_part-requires : goal.build_part-requires
+build_part-requires g c =
     let s₀ = c.args.states.now in
     let e₀ = c.args.arcs.now in
     let s = c.loop-part.states in
@@ -54,12 +54,9 @@ build-part-requires g c =
     let v = view c.args.sheet.now in
     let hs = take c.loop-part.count c.loop-part.finished in
     let used = c.loop-part.used in
-    let at = (goal.at.build-part-requires g c).In-Some in
+    let at = (goal.at.build_part-requires g c).In-Some in
     let under = c.loop-part.invariant.0 in
-    let found = opened g at in (
-      (under.built.in_use, (subst (AllStand s e used) (sym c.patterns-patterns.ensures.held_patterns) (patterns_stand g.A.Alphabet.labels v s₀ e₀ (standing g at) s e hs used under), under.built.stand)),
-      subst (λ (js : List Join). (k : ℕ) → k < length js → (get_or js k none).whole ≡ c.in-Some.part → Among hs (get_or js k none).left × Among hs (get_or js k none).right) (sym c.joins-joins.ensures.held_joins) found.1.right_hand,
-    )
+    let found = opened g at in record { in_use = (under.built.in_use, (subst (AllStand s e used) (sym c.patterns-patterns.ensures.held_patterns) (patterns_stand g.A.Alphabet.labels v s₀ e₀ (standing g at) s e hs used under), under.built.stand)); by_index = subst (λ (js : List Join). (k : ℕ) → k < length js → (get_or js k none).whole ≡ c.in-Some.part → Among hs (get_or js k none).left × Among hs (get_or js k none).right) (sym c.joins-joins.ensures.held_joins) found.1.right_hand }
 
 pub bounds-finished-count : goal.bounds-finished-count
 bounds-finished-count g c = (below g (goal.at.bounds-finished-count g c).In-Some).1
@@ -133,5 +130,5 @@ returns g c =
     let hs = take c.loop-part.count c.loop-part.finished in
     let inv = c.loop-part.invariant in
     let counted = ap (λ x. x.parts) c.counts-parts.ensures.counted in
-    let none_open = subst (λ (n : ℕ). (p : ℕ) → p < n → Open v.joins hs p → ⊥) counted (subst (λ (js : List Join). (p : ℕ) → p < c.counts-parts.result.parts → Open js hs p → ⊥) c.joins-joins.ensures.held_joins c.in-default.ensures.finds) in
+    let none_open = subst (λ (n : ℕ). (p : ℕ) → p < n → Open v.joins hs p → ⊥) counted (subst (λ (js : List Join). (p : ℕ) → p < c.counts-parts.result.parts → Open js hs p → ⊥) c.joins-joins.ensures.held_joins c.in_default.ensures.finds) in
     record { ends = (completed g.A.Alphabet.labels v s₀ e₀ (whole_stands v s₀ e₀ (among sheet) c.requires) c.loop-part.states c.loop-part.arcs hs c.loop-part.used inv.0 (acyclic sheet) (known sheet) none_open, omega (arith, inv.2, counted, few_parts sheet), inv.1) }

@@ -9,10 +9,10 @@ use Rattle.solve.proofs.Going.{went_none, went_then, went_broken, stands_same, s
 use Rattle.solve.proofs.Operands.{patterns_more, patterns_rest, read_same}
 use Rattle.solve.proofs.course.meet_patterns.Given as given
 use Rattle.solve.proofs.course.meet_patterns.Goals as goal
-use Rattle.solve.proofs.course.meet_patterns.Goals.{After-meet-pattern}
+use Rattle.solve.proofs.course.meet_patterns.Goals.{After-meet_pattern}
 
-pub meet-pattern-requires : goal.meet-pattern-requires
-meet-pattern-requires g c =
+pub meet_pattern-requires : goal.meet_pattern-requires
+meet_pattern-requires g c =
     let w = c.args.work in
     let h = get_or c.args.patterns.now c.loop-k.k nowhere in
     let inv = c.loop-k.invariant in
@@ -23,7 +23,7 @@ pub loop-k-init : goal.loop-k-init
 loop-k-init g c = went_none g.A.Alphabet.labels c.args.work c.args.states.now c.args.arcs.now c.requires.0
 
 -- one pattern more
-stepped : (g : given.Over) (c : After-meet-pattern g) → let s = c.args.states.now in let e = c.args.arcs.now in
+stepped : (g : given.Over) (c : After-meet_pattern g) → let s = c.args.states.now in let e = c.args.arcs.now in
     Went g.A.Alphabet.labels (pattern_operands (map (read s e) (take (c.loop-k.k + 1) c.args.patterns.now)) c.args.part) c.args.work s e c.meet_pattern.new.states c.meet_pattern.new.arcs c.meet_pattern.result
 stepped g c =
     let a = g.A.Alphabet.labels in
@@ -43,10 +43,10 @@ stepped g c =
     subst (λ os. Went a os w s e s' e' c.meet_pattern.result) (sym (patterns_more p (read s e) hs k c.loop-k-test.true)) (went_then a w s e inv step)
 
 pub loop-k-preserved : goal.loop-k-preserved
-loop-k-preserved g c = subst (Went g.A.Alphabet.labels _ c.args.work c.args.states.now c.args.arcs.now c.meet_pattern.new.states c.meet_pattern.new.arcs) c.in-ok-met.was (stepped g (goal.at.loop-k-preserved g c).After-meet-pattern)
+loop-k-preserved g c = subst (Went g.A.Alphabet.labels _ c.args.work c.args.states.now c.args.arcs.now c.meet_pattern.new.states c.meet_pattern.new.arcs) c.in_ok-met.was (stepped g (goal.at.loop-k-preserved g c).After-meet_pattern)
 
-pub returns-in-err-met : goal.returns-in-err-met
-returns-in-err-met g c =
+pub returns-in_err-met : goal.returns-in_err-met
+returns-in_err-met g c =
     let a = g.A.Alphabet.labels in
     let w = c.args.work in
     let s = c.args.states.now in
@@ -56,8 +56,8 @@ returns-in-err-met g c =
     let p = c.args.part in
     let s' = c.meet_pattern.new.states in
     let e' = c.meet_pattern.new.arcs in
-    let all = subst (Went a (pattern_operands (map (read s e) (take (k + 1) hs)) p) w s e s' e') c.in-err-met.was (stepped g (goal.at.returns-in-err-met g c).After-meet-pattern) in
-    record { goes = went_broken a w s e (pattern_operands (map (read s e) (drop (k + 1) hs)) p) (patterns_rest p (read s e) hs (k + 1)) c.from-residual.result c.from-residual.ensures.1 all }
+    let all = subst (Went a (pattern_operands (map (read s e) (take (k + 1) hs)) p) w s e s' e') c.in_err-met.was (stepped g (goal.at.returns-in_err-met g c).After-meet_pattern) in
+    record { goes = went_broken a w s e (pattern_operands (map (read s e) (drop (k + 1) hs)) p) (patterns_rest p (read s e) hs (k + 1)) c.from_residual.result c.from_residual.ensures.1 all }
 
 pub returns : goal.returns
 returns g c =

@@ -9,11 +9,11 @@ use Rattle.solve.proofs.Placing.{reworded_more}
 use Rattle.solve.proofs.Uses.{roots_before}
 use Rattle.solve.proofs.judge.place_words.Goals as goal
 
-pub place-roots-requires : goal.place-roots-requires
-place-roots-requires g c = ((c.requires.0.0, c.requires.0.1.0.few_joins), c.requires.1.worded, c.requires.2)
+pub place_roots-requires : goal.place_roots-requires
+place_roots-requires g c = record { standing = (c.requires.standing.0, c.requires.standing.1.0.few_joins); by_index = c.requires.sound.worded; parts_in_bounds = c.requires.parts_in_bounds }
 
-pub place-pieces-requires : goal.place-pieces-requires
-place-pieces-requires g c =
+pub place_pieces-requires : goal.place_pieces-requires
+place_pieces-requires g c =
     let admits = g.A.Alphabet.labels.admits in
     let s = c.args.states.now in
     let e = c.args.arcs.now in
@@ -24,18 +24,12 @@ place-pieces-requires g c =
     let r' = c.place_roots.new.report in
     let ws = c.place_roots.new.words in
     let roots = c.place_roots.ensures in
-    let joined = c.requires.0.1.0 in
+    let joined = c.requires.standing.1.0 in
     let again = roots.renumbers 0 (λ p low. omega arith) in
-    let sound = sound_still s s' e r r' roots.rewords.automata again admits parts js c.requires.1 in (
-      (standing_still s s' e r r' roots.rewords.automata again c.args.used parts roots.rewords.long c.requires.0.0, (joined.few_parts, joined.few_joins)),
-      (c.requires.0.1.1, joined.known),
-      sound.splits,
-      (λ p low root. (
+    let sound = sound_still s s' e r r' roots.rewords.automata again admits parts js c.requires.sound in record { standing = (standing_still s s' e r r' roots.rewords.automata again c.args.used parts roots.rewords.long c.requires.standing.0, (joined.few_parts, joined.few_joins)); single_use = (c.requires.standing.1.1, joined.known); in_turn = sound.splits; by_index = (λ p low root. (
         subst (λ m. Accepts admits m (word_at ws (row r' p).word)) (sym (at_renumbered 0 s s' e again (row r' p).automaton)) (roots.accepts p low root),
         omega (arith, roots.lays.first p low root, roots_before js (word_len r') p parts low root, roots.lays.within, roots.lays.long),
-      )),
-      rooted js parts joined.acyclic joined.known,
-    )
+      )); by_index_2 = rooted js parts joined.acyclic joined.known }
 
 pub returns : goal.returns
 returns g c =

@@ -12,7 +12,7 @@ loop-part-preserved c =
     let used = c.uses.ensures.counts in
     elim c.if-uses-eq0.branch [
       | then-uses-eq0+else-bound-words w ↦
-          let bound = w.saturating-sub-bound.ensures ∙ ap (λ q. q.count.states - 1) w.place_of.ensures.finds in
+          let bound = w.saturating_sub-bound.ensures ∙ ap (λ q. q.count.states - 1) w.place_of.ensures.finds in
           let more = roots_root js f p (sym used ∙ w.if-uses-eq0.true) in
           (omega (arith, more, bound, w.sum-is, c.loop-part.invariant.0), omega (arith, w.sum-is, w.if-bound-words.false, c.loop-part.invariant.1))
       | else-uses-eq0 w ↦
