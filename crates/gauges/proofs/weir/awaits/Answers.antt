@@ -9,8 +9,8 @@ use Rattle.gauges.proofs.weir.awaits.Goals as goal
 use Rattle.gauges.proofs.weir.awaits.Goals.{After-accepts}
 
 -- the rows that were made are those of the wait
-rows : (c : After-accepts) → of_rows c.wait-states-states.result c.wait-arcs-arcs.result ≡ wait
-rows c = λ i. of_rows (c.wait-states-states.ensures.rows i) (c.wait-arcs-arcs.ensures.rows i)
+rows : (c : After-accepts) → of_rows c.wait_states-states.result c.wait_arcs-arcs.result ≡ wait
+rows c = λ i. of_rows (c.wait_states-states.ensures.rows i) (c.wait_arcs-arcs.ensures.rows i)
 
 pub returns-in-Ok : goal.returns-in-Ok
 returns-in-Ok c =
