@@ -7,6 +7,7 @@ use giver::fixed::FixedText;
 use giver::table::Table;
 use sheet::{Join, Refusal, Sheet};
 use solve::{Row, Span, solve};
+use std::process::Abort;
 use std::test::*;
 use verdict::{Solved, Table as Full, Verdict};
 
@@ -122,25 +123,31 @@ impl Desk {
         }
     }
 
-    fn text(&mut self, part: usize, letters: &[u32]) -> Result<(), Fail> {
+    fn text(&mut self, rt: &impl Abort, part: usize, letters: &[u32]) -> Result<(), Fail> {
         let text = FixedText::new::<Text>(letters);
         let answer = self
             .sheet
             .pattern::<Text, FixedText<'_>>(&mut self.states, &mut self.arcs, part, &text);
-        assert!(answer.is_ok());
+        assert!(rt; answer.is_ok());
         Ok(())
     }
 
-    fn table(&mut self, part: usize, table: &Table<'_, Text>) -> Result<(), Fail> {
+    fn table(&mut self, rt: &impl Abort, part: usize, table: &Table<'_, Text>) -> Result<(), Fail> {
         let answer = self
             .sheet
             .pattern::<Text, Table<'_, Text>>(&mut self.states, &mut self.arcs, part, table);
-        assert!(answer.is_ok());
+        assert!(rt; answer.is_ok());
         Ok(())
     }
 
-    fn join(&mut self, whole: usize, left: usize, right: usize) -> Result<(), Fail> {
-        assert!(self.sheet.join(Join { whole, left, right }).is_ok());
+    fn join(
+        &mut self,
+        rt: &impl Abort,
+        whole: usize,
+        left: usize,
+        right: usize,
+    ) -> Result<(), Fail> {
+        assert!(rt; self.sheet.join(Join { whole, left, right }).is_ok());
         Ok(())
     }
 
@@ -239,10 +246,10 @@ fn a_part_alone(rt: HostRuntime) -> Result<(), Fail> {
     let mut desk = Desk::new(1);
     assert!(rt; desk.gives(ALL, POSSIBLE, 1, 1));
     assert!(rt; desk.has_word(0, 0, &[]));
-    desk.text(0, &[65])?;
+    desk.text(&rt, 0, &[65])?;
     assert!(rt; desk.gives(ALL, POSSIBLE, 3, 2));
     assert!(rt; desk.has_word(0, 0, &[65]));
-    desk.text(0, &[66])?;
+    desk.text(&rt, 0, &[66])?;
     assert!(rt; desk.gives(ALL, impossible(0), 4, 2));
     Ok(())
 }
@@ -256,12 +263,12 @@ const ENOUGH: Lent = Lent {
 };
 
 // Nothing and then "7" is "7".
-fn seven() -> Result<Desk, Fail> {
+fn seven(rt: &impl Abort) -> Result<Desk, Fail> {
     let mut desk = Desk::new(3);
-    desk.text(0, &[])?;
-    desk.text(1, &[55])?;
-    desk.text(2, &[55])?;
-    desk.join(2, 0, 1)?;
+    desk.text(rt, 0, &[])?;
+    desk.text(rt, 1, &[55])?;
+    desk.text(rt, 2, &[55])?;
+    desk.join(rt, 2, 0, 1)?;
     Ok(desk)
 }
 
@@ -269,7 +276,7 @@ fn seven() -> Result<Desk, Fail> {
 // then 3 and 1 for the concatenation and as many for the product with it.
 #[test]
 fn the_empty_text_then_seven(rt: HostRuntime) -> Result<(), Fail> {
-    let mut desk = seven()?;
+    let mut desk = seven(&rt)?;
     assert!(rt; desk.gives(ENOUGH, POSSIBLE, 14, 7));
     assert!(rt; desk.has_word(0, 0, &[]));
     assert!(rt; desk.has_word(1, 0, &[55]));
@@ -281,7 +288,7 @@ fn the_empty_text_then_seven(rt: HostRuntime) -> Result<(), Fail> {
 
 #[test]
 fn a_row_or_a_letter_is_missing(rt: HostRuntime) -> Result<(), Fail> {
-    let mut desk = seven()?;
+    let mut desk = seven(&rt)?;
     let states = Lent {
         states: 18,
         ..ENOUGH
@@ -298,10 +305,10 @@ fn a_row_or_a_letter_is_missing(rt: HostRuntime) -> Result<(), Fail> {
 }
 
 // Part 0 is "AB" and part 1 twice.
-fn twice() -> Result<Desk, Fail> {
+fn twice(rt: &impl Abort) -> Result<Desk, Fail> {
     let mut desk = Desk::new(2);
-    desk.text(0, &[65, 66])?;
-    desk.join(0, 1, 1)?;
+    desk.text(rt, 0, &[65, 66])?;
+    desk.join(rt, 0, 1, 1)?;
     Ok(desk)
 }
 
@@ -309,19 +316,19 @@ fn twice() -> Result<Desk, Fail> {
 // The last product has the pairs (0, 0), (1, 1) and (1, 2) with 2 arcs, and where part 1 may be "B" (2, 3) with 1 more.
 #[test]
 fn a_part_used_twice(rt: HostRuntime) -> Result<(), Fail> {
-    let mut desk = twice()?;
+    let mut desk = twice(&rt)?;
     let a_or_b: Table<'_, Text> = Table {
         states: &[state(true, false), state(false, true)],
         arcs: &[arc(0, Text::range(65, 66), 1)],
     };
-    desk.table(1, &a_or_b)?;
+    desk.table(&rt, 1, &a_or_b)?;
     assert!(rt; desk.gives(ALL, UNKNOWN, 15, 11));
     assert!(rt; desk.has_word(0, 0, &[]));
     assert!(rt; desk.has_word(1, 0, &[]));
     assert!(rt; desk.report_stays_from(2));
     assert!(rt; desk.words_stay_from(0));
-    let mut desk = twice()?;
-    desk.text(1, &[65])?;
+    let mut desk = twice(&rt)?;
+    desk.text(&rt, 1, &[65])?;
     assert!(rt; desk.gives(ALL, impossible(0), 14, 10));
     assert!(rt; desk.stays());
     Ok(())
@@ -332,8 +339,8 @@ fn a_part_used_twice(rt: HostRuntime) -> Result<(), Fail> {
 #[test]
 fn a_join_held_twice(rt: HostRuntime) -> Result<(), Fail> {
     let mut desk = Desk::new(3);
-    desk.join(0, 1, 2)?;
-    desk.join(0, 1, 2)?;
+    desk.join(&rt, 0, 1, 2)?;
+    desk.join(&rt, 0, 1, 2)?;
     assert!(rt; desk.gives(ALL, UNKNOWN, 13, 21));
     Ok(())
 }
@@ -351,10 +358,10 @@ fn the_first_beginning_leaves_too_much(rt: HostRuntime) -> Result<(), Fail> {
             arc(1, Text::range(98, 98), 2),
         ],
     };
-    desk.table(1, &a_or_ab)?;
-    desk.text(2, &[99])?;
-    desk.text(0, &[97, 98, 99])?;
-    desk.join(0, 1, 2)?;
+    desk.table(&rt, 1, &a_or_ab)?;
+    desk.text(&rt, 2, &[99])?;
+    desk.text(&rt, 0, &[97, 98, 99])?;
+    desk.join(&rt, 0, 1, 2)?;
     assert!(rt; desk.gives(ALL, POSSIBLE, 23, 19));
     assert!(rt; desk.has_word(0, 0, &[97, 98, 99]));
     assert!(rt; desk.has_word(1, 0, &[97, 98]));
@@ -366,8 +373,8 @@ fn the_first_beginning_leaves_too_much(rt: HostRuntime) -> Result<(), Fail> {
 #[test]
 fn two_roots(rt: HostRuntime) -> Result<(), Fail> {
     let mut desk = Desk::new(2);
-    desk.text(0, &[65, 66])?;
-    desk.text(1, &[67])?;
+    desk.text(&rt, 0, &[65, 66])?;
+    desk.text(&rt, 1, &[67])?;
     assert!(rt; desk.gives(Lent { words: 1, ..ALL }, full(Full::Words, 0), 7, 5));
     assert!(rt; desk.gives(Lent { words: 2, ..ALL }, full(Full::Words, 1), 7, 5));
     assert!(rt; desk.stays());
@@ -383,7 +390,7 @@ fn two_roots(rt: HostRuntime) -> Result<(), Fail> {
 #[test]
 fn refusals(rt: HostRuntime) -> Result<(), Fail> {
     let mut desk = Desk::new(2);
-    desk.text(0, &[65])?;
+    desk.text(&rt, 0, &[65])?;
     let report = Lent { report: 1, ..ALL };
     assert_eq!(rt; desk.refusal(report), 8);
     assert_eq!(rt; desk.refusal(Lent { states: 1, ..ALL }), 5);
