@@ -1,4 +1,4 @@
-// The bridge station's sheet, entered call by call and solved: its reply is an optional acknowledgement and then the
+// The bridge station's sheet, entered call by call or solved: its reply is an optional acknowledgement and then the
 // temperature, which is a number and its unit.
 use crate::solving;
 use crate::weir::state;
@@ -136,14 +136,21 @@ fn limits(heap: Global, bridge: &mut Bridge) -> Result<String, AllocError> {
     Ok(out)
 }
 
-// The record of the calls and their answers, and of solving the sheet.
+// The record of the calls and their answers.
 pub fn record(heap: Global) -> Result<String, AllocError> {
     let mut bridge = Bridge::new();
     let mut out = parts(heap, &mut bridge)?;
     out.push_str(limits(heap, &mut bridge)?.as_str())?;
     out.push_str(counts_line(heap, &bridge.sheet)?.as_str())?;
-    out.push_str(bridge.solved(heap)?.as_str())?;
     bridge.sheet.clear();
     out.push_str(counts_line(heap, &bridge.sheet)?.as_str())?;
     Ok(out)
+}
+
+// The record of solving the sheet, once it is entered.
+pub fn solved_record(heap: Global) -> Result<String, AllocError> {
+    let mut bridge = Bridge::new();
+    let _ = parts(heap, &mut bridge)?;
+    let _ = limits(heap, &mut bridge)?;
+    bridge.solved(heap)
 }

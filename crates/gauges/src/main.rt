@@ -1,6 +1,6 @@
 // Holds replies, one to a line of standard input, against the weir station's wait, a fixed text, and what the
-// station sends: an optional acknowledgement and then the level. Then enters and solves the sheets of the weir and the
-// bridge station.
+// station sends: an optional acknowledgement and then the level. Then enters the bridge station's sheet. Asked to
+// solve, it solves the sheets of the weir and the bridge station instead.
 mod bridge;
 mod lines;
 mod reply;
@@ -11,6 +11,7 @@ use build::{Place, Stop};
 use lines::Reply;
 use reply::Replies;
 use std::alloc::{AllocError, Global};
+use std::env;
 use std::io::Read;
 
 // What each pattern says of a reply.
@@ -119,16 +120,38 @@ fn record(heap: Global, input: &[u8]) -> Result<String, AllocError> {
     Ok(out)
 }
 
-fn run(rt: &HostRuntime) -> anyhow::Result<()> {
+fn hold_replies(rt: &HostRuntime) -> anyhow::Result<()> {
     let mut input = Vec::new(rt.alloc());
     rt.stdin().read_to_end(&mut input)?;
     let out = record(rt.alloc(), &input)?;
     rt.print(out.as_str())?;
-    let solved = solving::weir_record(rt.alloc())?;
-    rt.print(solved.as_str())?;
     let calls = bridge::record(rt.alloc())?;
     rt.print(calls.as_str())?;
     Ok(())
+}
+
+fn solve_sheets(rt: &HostRuntime) -> anyhow::Result<()> {
+    let weir = solving::weir_record(rt.alloc())?;
+    rt.print(weir.as_str())?;
+    let bridge = bridge::solved_record(rt.alloc())?;
+    rt.print(bridge.as_str())?;
+    Ok(())
+}
+
+// Whether the first word of the command line asks for it.
+fn is_asked_to_solve(rt: &HostRuntime) -> anyhow::Result<bool> {
+    match env::args(rt)?.nth(1) {
+        Some(word) => Ok(word.as_str() == "solve"),
+        None => Ok(false),
+    }
+}
+
+fn run(rt: &HostRuntime) -> anyhow::Result<()> {
+    if is_asked_to_solve(rt)? {
+        solve_sheets(rt)
+    } else {
+        hold_replies(rt)
+    }
 }
 
 fn main(rt: HostRuntime) -> anyhow::Result<()> {
@@ -161,6 +184,26 @@ mod tests {
         assert!(rt;
             out.as_str()
                 == "reply \"#4.21\" wait no text no joined yes met no\n1 read, accepted by the wait 0, the text 0, the join 1, both 0\n"
+        );
+        Ok(())
+    }
+
+    #[test]
+    fn the_weir_is_solved(rt: HostRuntime) -> Result<(), Fail> {
+        let out = solving::weir_record(rt.alloc())?;
+        assert!(rt;
+            out.as_str()
+                == "weir sheet: possible, 25 states and 20 arcs built\nacknowledgement \"\": state rows 10..12, arc rows 8..9\nlevel \"4.21\": state rows 13..18, arc rows 10..14\nreply \"4.21\": state rows 28..34, arc rows 23..27\n"
+        );
+        Ok(())
+    }
+
+    #[test]
+    fn the_bridge_is_solved(rt: HostRuntime) -> Result<(), Fail> {
+        let out = bridge::solved_record(rt.alloc())?;
+        assert!(rt;
+            out.as_str()
+                == "bridge sheet: possible, 51 states and 44 arcs built\nacknowledgement \"#\": state rows 11..13, arc rows 8..9\nnumber \"12.5\": state rows 14..19, arc rows 10..14\nunit \"\\u{b0}C\": state rows 20..23, arc rows 15..17\ntemperature \"12.5\\u{b0}C\": state rows 32..40, arc rows 25..32\nreply \"#12.5\\u{b0}C\": state rows 51..61, arc rows 42..51\n"
         );
         Ok(())
     }
