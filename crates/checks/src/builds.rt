@@ -10,7 +10,7 @@ use build::product::product;
 use build::{Operands, Place, Rows, Stop};
 use giver::accepts::accepts;
 use giver::table::Table;
-use std::test::*;
+use std::test::Fail;
 
 const USED: Rows = Rows { states: 5, arcs: 3 };
 
@@ -100,7 +100,7 @@ fn is_built(answer: Result<Place, Stop>, states: usize, arcs: usize) -> bool {
 }
 
 #[test]
-fn all_words_and_a(rt: HostRuntime) -> Result<(), Fail> {
+fn all_words_and_a(rt: HostRuntime) {
     let mut states = states();
     let mut arcs = arcs();
     assert!(rt; is_built(meet(&mut states, &mut arcs, ALL_WORDS, A), 2, 1));
@@ -112,13 +112,11 @@ fn all_words_and_a(rt: HostRuntime) -> Result<(), Fail> {
     assert_eq!(rt; accepts(&built, &[]).ok(), Some(false));
     assert_eq!(rt; accepts(&built, &[66]).ok(), Some(false));
     assert_eq!(rt; accepts(&built, &[65, 65]).ok(), Some(false));
-    Ok(())
 }
 
 #[test]
-fn no_word_is_a_and_b(rt: HostRuntime) -> Result<(), Fail> {
+fn no_word_is_a_and_b(rt: HostRuntime) {
     assert!(rt; is_built(meet(&mut states(), &mut arcs(), A, B), 1, 0));
-    Ok(())
 }
 
 // All words and "A", in n state rows and m arc rows.
@@ -131,17 +129,16 @@ fn meet_in(n: usize, m: usize) -> Result<Place, Stop>
 }
 
 #[test]
-fn rows_run_out(rt: HostRuntime) -> Result<(), Fail> {
+fn rows_run_out(rt: HostRuntime) {
     assert!(rt; is_built(meet_in(7, 4), 2, 1));
     assert!(rt; matches!(meet_in(6, 3), Err(Stop::StatesFull)));
     assert!(rt; matches!(meet_in(7, 3), Err(Stop::ArcsFull)));
     assert!(rt; matches!(meet_in(4, 6), Err(Stop::Outside)));
     assert!(rt; matches!(meet_in(8, 2), Err(Stop::Outside)));
-    Ok(())
 }
 
 #[test]
-fn operands_outside_are_refused(rt: HostRuntime) -> Result<(), Fail> {
+fn operands_outside_are_refused(rt: HostRuntime) {
     let mut states = states();
     let mut arcs = arcs();
     let past = Place {
@@ -152,7 +149,6 @@ fn operands_outside_are_refused(rt: HostRuntime) -> Result<(), Fail> {
     arcs[2].to = 2;
     assert!(rt; matches!(meet(&mut states, &mut arcs, A, B), Err(Stop::Outside)));
     assert!(rt; is_built(meet(&mut states, &mut arcs, ALL_WORDS, A), 2, 1));
-    Ok(())
 }
 
 // Whether the answer has so many rows.

@@ -12,10 +12,9 @@ mod labels {
     use alphabet::modem::Modem;
     use alphabet::text::Text;
     use alphabet::{Alphabet, RangedAlphabet};
-    use std::test::*;
 
     #[test]
-    fn text_range(rt: HostRuntime) -> Result<(), Fail> {
+    fn text_range(rt: HostRuntime) {
         let a_to_b = Text::range(65, 66);
         assert!(rt; Text::admits(&a_to_b, 65));
         assert!(rt; Text::admits(&a_to_b, 66));
@@ -26,30 +25,27 @@ mod labels {
         let none = Text::range(66, 65);
         assert!(rt; !Text::admits(&none, 65));
         assert!(rt; !Text::admits(&none, 66));
-        Ok(())
     }
 
     #[test]
-    fn text_meet(rt: HostRuntime) -> Result<(), Fail> {
+    fn text_meet(rt: HostRuntime) {
         let both = Text::meet(&Text::range(65, 80), &Text::range(70, 90));
         assert!(rt; !Text::admits(&both, 69));
         assert!(rt; Text::admits(&both, 70));
         assert!(rt; Text::admits(&both, 80));
         assert!(rt; !Text::admits(&both, 81));
-        Ok(())
     }
 
     #[test]
-    fn text_first(rt: HostRuntime) -> Result<(), Fail> {
+    fn text_first(rt: HostRuntime) {
         assert_eq!(rt; Text::first(&Text::full()), Some(0));
         assert_eq!(rt; Text::first(&Text::range(65, 66)), Some(65));
         assert_eq!(rt; Text::first(&Text::range(66, 65)), None);
         assert_eq!(rt; Text::first(&Text::range(196_608, 196_609)), None);
-        Ok(())
     }
 
     #[test]
-    fn modem_range(rt: HostRuntime) -> Result<(), Fail> {
+    fn modem_range(rt: HostRuntime) {
         assert!(rt; Modem::admits(&Modem::full(), 127));
         assert!(rt; !Modem::admits(&Modem::full(), 128));
         let past = Modem::range(100, 500);
@@ -59,11 +55,10 @@ mod labels {
         let none = Modem::range(101, 100);
         assert!(rt; !Modem::admits(&none, 100));
         assert!(rt; !Modem::admits(&none, 101));
-        Ok(())
     }
 
     #[test]
-    fn modem_meet(rt: HostRuntime) -> Result<(), Fail> {
+    fn modem_meet(rt: HostRuntime) {
         let digits = Modem::range(48, 57);
         let both = Modem::meet(&digits, &Modem::range(50, 90));
         assert!(rt; !Modem::admits(&both, 49));
@@ -75,7 +70,6 @@ mod labels {
             Modem::first(&Modem::meet(&digits, &Modem::range(58, 90))),
             None
         );
-        Ok(())
     }
 }
 
@@ -89,7 +83,6 @@ mod patterns {
     use giver::accepts::accepts;
     use giver::fixed::FixedText;
     use giver::table::Table;
-    use std::test::*;
 
     fn state(initial: bool, accepting: bool) -> State {
         State {
@@ -101,7 +94,7 @@ mod patterns {
 
     // A digit, then anything.
     #[test]
-    fn table_accepts(rt: HostRuntime) -> Result<(), Fail> {
+    fn table_accepts(rt: HostRuntime) {
         let digit = Arc {
             from: 0,
             label: Modem::range(48, 57),
@@ -122,11 +115,10 @@ mod patterns {
         let marked = [35, 52, 46, 50, 49];
         assert_eq!(rt; accepts(&table, &marked).ok(), Some(false));
         assert_eq!(rt; accepts(&table, &[52, 128]).ok(), Some(false));
-        Ok(())
     }
 
     #[test]
-    fn table_tells_past_its_end(rt: HostRuntime) -> Result<(), Fail> {
+    fn table_tells_past_its_end(rt: HostRuntime) {
         let table: Table<'_, Text> = Table {
             states: &[state(true, true)],
             arcs: &[on_a(0, 0)],
@@ -139,7 +131,6 @@ mod patterns {
         assert_eq!(rt; arc.to, 0);
         assert_eq!(rt; arc.label.lo, 0);
         assert_eq!(rt; arc.label.hi, 196_607);
-        Ok(())
     }
 
     fn fixed_accepts<A: RangedAlphabet>(text: &[u32], word: &[u32]) -> Option<bool> {
@@ -147,7 +138,7 @@ mod patterns {
     }
 
     #[test]
-    fn fixed_text_accepts_its_word(rt: HostRuntime) -> Result<(), Fail> {
+    fn fixed_text_accepts_its_word(rt: HostRuntime) {
         assert_eq!(rt; fixed_accepts::<Text>(&[65, 66], &[65, 66]), Some(true));
         assert_eq!(rt; fixed_accepts::<Text>(&[65, 66], &[65]), Some(false));
         assert_eq!(rt; fixed_accepts::<Text>(&[65, 66], &[65, 67]), Some(false));
@@ -160,7 +151,6 @@ mod patterns {
         // a letter that the alphabet lacks
         assert_eq!(rt; fixed_accepts::<Modem>(&[65, 200], &[65, 200]), Some(false));
         assert_eq!(rt; fixed_accepts::<Modem>(&[65, 200], &[65]), Some(false));
-        Ok(())
     }
 
     fn on_a(from: usize, to: usize) -> Arc<TextLabel> {
@@ -181,18 +171,17 @@ mod patterns {
     }
 
     #[test]
-    fn arcs_outside_are_refused(rt: HostRuntime) -> Result<(), Fail> {
+    fn arcs_outside_are_refused(rt: HostRuntime) {
         let states = [state(true, true); 256];
         assert_eq!(rt; refusal(&states, &[on_a(255, 255)]), 0);
         assert_eq!(rt; refusal(&states, &[on_a(0, 0), on_a(0, 256)]), 4);
         assert_eq!(rt; refusal(&states, &[on_a(256, 0), on_a(0, 0)]), 4);
         assert_eq!(rt; refusal(&[], &[on_a(0, 0)]), 4);
-        Ok(())
     }
 
     // Size is looked at before the arcs.
     #[test]
-    fn large_tables_are_refused(rt: HostRuntime) -> Result<(), Fail> {
+    fn large_tables_are_refused(rt: HostRuntime) {
         let states = [state(true, true); 257];
         let inside = [on_a(0, 1); 4097];
         let outside = [on_a(0, 257); 4097];
@@ -202,6 +191,5 @@ mod patterns {
         assert_eq!(rt; refusal(&states, &outside[0..1]), 3);
         assert_eq!(rt; refusal(&states[0..256], &inside), 3);
         assert_eq!(rt; refusal(&states[0..256], &outside), 3);
-        Ok(())
     }
 }

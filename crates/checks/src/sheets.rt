@@ -7,7 +7,6 @@ use automaton::{Arc, Marks, State};
 use giver::table::Table;
 use sheet::{Join, Refusal, Sheet};
 use std::process::Abort;
-use std::test::*;
 
 fn state() -> State {
     State {
@@ -70,7 +69,7 @@ fn four() -> Sheet {
 }
 
 #[test]
-fn parts_run_out_after_64(rt: HostRuntime) -> Result<(), Fail> {
+fn parts_run_out_after_64(rt: HostRuntime) {
     let mut sheet = Sheet::new();
     for _ in 0..63 {
         assert!(rt; sheet.part().is_ok());
@@ -78,11 +77,10 @@ fn parts_run_out_after_64(rt: HostRuntime) -> Result<(), Fail> {
     assert_eq!(rt; sheet.part().ok(), Some(63));
     assert!(rt; matches!(sheet.part(), Err(Refusal::Full)));
     assert!(rt; counts(&sheet, 64, 0, 0));
-    Ok(())
 }
 
 #[test]
-fn joins_run_out_after_64(rt: HostRuntime) -> Result<(), Fail> {
+fn joins_run_out_after_64(rt: HostRuntime) {
     let mut sheet = four();
     for _ in 0..64 {
         assert_eq!(rt; join(&mut sheet, 0, 1, 2), 0);
@@ -92,11 +90,10 @@ fn joins_run_out_after_64(rt: HostRuntime) -> Result<(), Fail> {
     assert_eq!(rt; join(&mut sheet, 0, 0, 0), 2);
     assert_eq!(rt; join(&mut sheet, 0, 4, 0), 1);
     assert!(rt; counts(&sheet, 4, 0, 64));
-    Ok(())
 }
 
 #[test]
-fn joins_of_unknown_parts_are_refused(rt: HostRuntime) -> Result<(), Fail> {
+fn joins_of_unknown_parts_are_refused(rt: HostRuntime) {
     let mut sheet = four();
     assert_eq!(rt; join(&mut sheet, 4, 1, 2), 1);
     assert_eq!(rt; join(&mut sheet, 0, 4, 2), 1);
@@ -106,11 +103,10 @@ fn joins_of_unknown_parts_are_refused(rt: HostRuntime) -> Result<(), Fail> {
     assert!(rt; counts(&sheet, 4, 0, 0));
     assert_eq!(rt; join(&mut sheet, 0, 3, 3), 0);
     assert!(rt; counts(&sheet, 4, 0, 1));
-    Ok(())
 }
 
 #[test]
-fn circles_are_refused(rt: HostRuntime) -> Result<(), Fail> {
+fn circles_are_refused(rt: HostRuntime) {
     let mut sheet = four();
     assert_eq!(rt; join(&mut sheet, 0, 0, 1), 7);
     assert_eq!(rt; join(&mut sheet, 0, 1, 0), 7);
@@ -122,7 +118,6 @@ fn circles_are_refused(rt: HostRuntime) -> Result<(), Fail> {
     assert_eq!(rt; join(&mut sheet, 3, 2, 2), 0);
     assert_eq!(rt; join(&mut sheet, 2, 1, 1), 7);
     assert!(rt; counts(&sheet, 4, 0, 3));
-    Ok(())
 }
 
 fn give_128(
@@ -131,22 +126,21 @@ fn give_128(
     states: &mut [State],
     arcs: &mut [Arc<TextLabel>],
     giver: &Table<'_, Text>,
-) -> Result<(), Fail> {
+) {
     for _ in 0..128 {
         assert_eq!(rt; give(sheet, states, arcs, 3, giver), 0);
     }
-    Ok(())
 }
 
 #[test]
-fn patterns_run_out_after_128(rt: HostRuntime) -> Result<(), Fail> {
+fn patterns_run_out_after_128(rt: HostRuntime) {
     let mut sheet = four();
     let mut states = [state(); 129];
     let one: Table<'_, Text> = Table {
         states: &[state()],
         arcs: &[],
     };
-    give_128(&rt, &mut sheet, &mut states, &mut [], &one)?;
+    give_128(&rt, &mut sheet, &mut states, &mut [], &one);
     assert_eq!(rt; give(&mut sheet, &mut states, &mut [], 3, &one), 2);
     assert!(rt; counts(&sheet, 4, 128, 0));
     assert!(rt; rows(&sheet, 128, 0));
@@ -157,7 +151,6 @@ fn patterns_run_out_after_128(rt: HostRuntime) -> Result<(), Fail> {
         arcs: &[arc(0, 1)],
     };
     assert_eq!(rt; give(&mut sheet, &mut [], &mut [], 3, &outside), 2);
-    Ok(())
 }
 
 // The answer of a sheet that holds no pattern and has large tables.
@@ -169,7 +162,7 @@ fn alone<'a>(part: usize, states: &'a [State], arcs: &'a [Arc<TextLabel>]) -> u3
 }
 
 #[test]
-fn large_patterns_are_refused(rt: HostRuntime) -> Result<(), Fail> {
+fn large_patterns_are_refused(rt: HostRuntime) {
     let states = [state(); 257];
     let arcs = [arc(0, 255); 4097];
     assert_eq!(rt; alone(0, &states[0..256], &arcs[0..4096]), 0);
@@ -178,11 +171,10 @@ fn large_patterns_are_refused(rt: HostRuntime) -> Result<(), Fail> {
     // the part is looked at before the size, and the size before the arcs
     assert_eq!(rt; alone(4, &states, &arcs), 1);
     assert_eq!(rt; alone(0, &states[0..1], &arcs), 3);
-    Ok(())
 }
 
 #[test]
-fn arcs_outside_a_pattern_are_refused(rt: HostRuntime) -> Result<(), Fail> {
+fn arcs_outside_a_pattern_are_refused(rt: HostRuntime) {
     let states = [state(); 2];
     assert_eq!(rt; alone(0, &states, &[arc(0, 1), arc(1, 1)]), 0);
     assert_eq!(rt; alone(0, &states, &[arc(0, 1), arc(0, 2)]), 4);
@@ -190,7 +182,6 @@ fn arcs_outside_a_pattern_are_refused(rt: HostRuntime) -> Result<(), Fail> {
     assert_eq!(rt; alone(0, &[], &[arc(0, 0)]), 4);
     assert_eq!(rt; alone(0, &[], &[]), 0);
     assert_eq!(rt; alone(4, &states, &[arc(0, 2)]), 1);
-    Ok(())
 }
 
 // The answer in n state rows and m arc rows to a second pattern, of two states and an arc to the given one. The first pattern has three states and two arcs.
@@ -223,24 +214,22 @@ fn second_in(n: usize, m: usize, to: usize) -> u32
 }
 
 #[test]
-fn full_tables_are_taken(rt: HostRuntime) -> Result<(), Fail> {
+fn full_tables_are_taken(rt: HostRuntime) {
     assert_eq!(rt; second_in(5, 3, 1), 0);
     assert_eq!(rt; second_in(4, 3, 1), 6);
     assert_eq!(rt; second_in(5, 2, 1), 6);
     assert_eq!(rt; second_in(3, 2, 1), 6);
     assert_eq!(rt; second_in(8, 8, 1), 0);
-    Ok(())
 }
 
 // Arcs are looked at before lost rows, and lost rows before room.
 #[test]
-fn short_tables_lose_held_rows(rt: HostRuntime) -> Result<(), Fail> {
+fn short_tables_lose_held_rows(rt: HostRuntime) {
     assert_eq!(rt; second_in(2, 8, 1), 5);
     assert_eq!(rt; second_in(8, 1, 1), 5);
     assert_eq!(rt; second_in(0, 0, 1), 5);
     assert_eq!(rt; second_in(2, 8, 2), 4);
     assert_eq!(rt; second_in(4, 2, 2), 4);
-    Ok(())
 }
 
 // The answer where the arc of the second of two held patterns was changed to lead to the given state.
@@ -263,16 +252,15 @@ fn changed(to: usize) -> u32 {
 }
 
 #[test]
-fn a_held_arc_that_leads_outside_is_refused(rt: HostRuntime) -> Result<(), Fail> {
+fn a_held_arc_that_leads_outside_is_refused(rt: HostRuntime) {
     assert_eq!(rt; changed(0), 0);
     assert_eq!(rt; changed(1), 0);
     assert_eq!(rt; changed(2), 5);
     assert_eq!(rt; changed(3), 5);
-    Ok(())
 }
 
 #[test]
-fn clear_lets_go_of_everything(rt: HostRuntime) -> Result<(), Fail> {
+fn clear_lets_go_of_everything(rt: HostRuntime) {
     let mut sheet = four();
     let mut states = [state(); 2];
     let mut arcs = [arc(0, 0); 1];
@@ -291,5 +279,4 @@ fn clear_lets_go_of_everything(rt: HostRuntime) -> Result<(), Fail> {
     assert_eq!(rt; sheet.part().ok(), Some(0));
     // the tables have room again
     assert_eq!(rt; give(&mut sheet, &mut states, &mut arcs, 0, &two), 0);
-    Ok(())
 }

@@ -123,32 +123,23 @@ impl Desk {
         }
     }
 
-    fn text(&mut self, rt: &impl Abort, part: usize, letters: &[u32]) -> Result<(), Fail> {
+    fn text(&mut self, rt: &impl Abort, part: usize, letters: &[u32]) {
         let text = FixedText::new::<Text>(letters);
         let answer = self
             .sheet
             .pattern::<Text, FixedText<'_>>(&mut self.states, &mut self.arcs, part, &text);
         assert!(rt; answer.is_ok());
-        Ok(())
     }
 
-    fn table(&mut self, rt: &impl Abort, part: usize, table: &Table<'_, Text>) -> Result<(), Fail> {
+    fn table(&mut self, rt: &impl Abort, part: usize, table: &Table<'_, Text>) {
         let answer = self
             .sheet
             .pattern::<Text, Table<'_, Text>>(&mut self.states, &mut self.arcs, part, table);
         assert!(rt; answer.is_ok());
-        Ok(())
     }
 
-    fn join(
-        &mut self,
-        rt: &impl Abort,
-        whole: usize,
-        left: usize,
-        right: usize,
-    ) -> Result<(), Fail> {
+    fn join(&mut self, rt: &impl Abort, whole: usize, left: usize, right: usize) {
         assert!(rt; self.sheet.join(Join { whole, left, right }).is_ok());
-        Ok(())
     }
 
     fn solve(&mut self, lent: Lent) -> Result<Solved, Refusal> {
@@ -241,17 +232,16 @@ fn full(table: Full, part: usize) -> Verdict {
 
 // All words have 1 state and 1 arc, and met with "A" 2 and 1. That met with "B" has 1 state, which does not accept.
 #[test]
-fn a_part_alone(rt: HostRuntime) -> Result<(), Fail> {
+fn a_part_alone(rt: HostRuntime) {
     assert!(rt; Desk::new(0).gives(ALL, POSSIBLE, 0, 0));
     let mut desk = Desk::new(1);
     assert!(rt; desk.gives(ALL, POSSIBLE, 1, 1));
     assert!(rt; desk.has_word(0, 0, &[]));
-    desk.text(&rt, 0, &[65])?;
+    desk.text(&rt, 0, &[65]);
     assert!(rt; desk.gives(ALL, POSSIBLE, 3, 2));
     assert!(rt; desk.has_word(0, 0, &[65]));
-    desk.text(&rt, 0, &[66])?;
+    desk.text(&rt, 0, &[66]);
     assert!(rt; desk.gives(ALL, impossible(0), 4, 2));
-    Ok(())
 }
 
 // What the sheet of `seven` needs: it holds 5 states and 2 arcs, and its root has a final result of 3 states.
@@ -263,32 +253,31 @@ const ENOUGH: Lent = Lent {
 };
 
 // Nothing and then "7" is "7".
-fn seven(rt: &impl Abort) -> Result<Desk, Fail> {
+fn seven(rt: &impl Abort) -> Desk {
     let mut desk = Desk::new(3);
-    desk.text(rt, 0, &[])?;
-    desk.text(rt, 1, &[55])?;
-    desk.text(rt, 2, &[55])?;
-    desk.join(rt, 2, 0, 1)?;
-    Ok(desk)
+    desk.text(rt, 0, &[]);
+    desk.text(rt, 1, &[55]);
+    desk.text(rt, 2, &[55]);
+    desk.join(rt, 2, 0, 1);
+    desk
 }
 
 // Part 0 takes 1 state and 1 arc, then 1 and 0; part 1 takes 1 and 1, then 2 and 1; part 2 takes 1 and 1, then 2 and 1,
 // then 3 and 1 for the concatenation and as many for the product with it.
 #[test]
-fn the_empty_text_then_seven(rt: HostRuntime) -> Result<(), Fail> {
-    let mut desk = seven(&rt)?;
+fn the_empty_text_then_seven(rt: HostRuntime) {
+    let mut desk = seven(&rt);
     assert!(rt; desk.gives(ENOUGH, POSSIBLE, 14, 7));
     assert!(rt; desk.has_word(0, 0, &[]));
     assert!(rt; desk.has_word(1, 0, &[55]));
     assert!(rt; desk.has_word(2, 0, &[55]));
     assert!(rt; desk.report_stays_from(3));
     assert!(rt; desk.words_stay_from(1));
-    Ok(())
 }
 
 #[test]
-fn a_row_or_a_letter_is_missing(rt: HostRuntime) -> Result<(), Fail> {
-    let mut desk = seven(&rt)?;
+fn a_row_or_a_letter_is_missing(rt: HostRuntime) {
+    let mut desk = seven(&rt);
     let states = Lent {
         states: 18,
         ..ENOUGH
@@ -301,55 +290,52 @@ fn a_row_or_a_letter_is_missing(rt: HostRuntime) -> Result<(), Fail> {
     let words = Lent { words: 1, ..ENOUGH };
     assert!(rt; desk.gives(words, full(Full::Words, 2), 14, 7));
     assert!(rt; desk.stays());
-    Ok(())
 }
 
 // Part 0 is "AB" and part 1 twice.
-fn twice(rt: &impl Abort) -> Result<Desk, Fail> {
+fn twice(rt: &impl Abort) -> Desk {
     let mut desk = Desk::new(2);
-    desk.text(rt, 0, &[65, 66])?;
-    desk.join(rt, 0, 1, 1)?;
-    Ok(desk)
+    desk.text(rt, 0, &[65, 66]);
+    desk.join(rt, 0, 1, 1);
+    desk
 }
 
 // Part 1 takes 1 state and 1 arc, then 2 and 1; part 0 takes 1 and 1, then 3 and 2, then 4 and 3 for the concatenation.
 // The last product has the pairs (0, 0), (1, 1) and (1, 2) with 2 arcs, and where part 1 may be "B" (2, 3) with 1 more.
 #[test]
-fn a_part_used_twice(rt: HostRuntime) -> Result<(), Fail> {
-    let mut desk = twice(&rt)?;
+fn a_part_used_twice(rt: HostRuntime) {
+    let mut desk = twice(&rt);
     let a_or_b: Table<'_, Text> = Table {
         states: &[state(true, false), state(false, true)],
         arcs: &[arc(0, Text::range(65, 66), 1)],
     };
-    desk.table(&rt, 1, &a_or_b)?;
+    desk.table(&rt, 1, &a_or_b);
     assert!(rt; desk.gives(ALL, UNKNOWN, 15, 11));
     assert!(rt; desk.has_word(0, 0, &[]));
     assert!(rt; desk.has_word(1, 0, &[]));
     assert!(rt; desk.report_stays_from(2));
     assert!(rt; desk.words_stay_from(0));
-    let mut desk = twice(&rt)?;
-    desk.text(&rt, 1, &[65])?;
+    let mut desk = twice(&rt);
+    desk.text(&rt, 1, &[65]);
     assert!(rt; desk.gives(ALL, impossible(0), 14, 10));
     assert!(rt; desk.stays());
-    Ok(())
 }
 
 // Each of the three parts takes 1 state and 1 arc. Each concatenation has 2 and 3, and so has the first product; in the
 // second all 4 pairs are initial, and all 9 pairs of arcs meet.
 #[test]
-fn a_join_held_twice(rt: HostRuntime) -> Result<(), Fail> {
+fn a_join_held_twice(rt: HostRuntime) {
     let mut desk = Desk::new(3);
-    desk.join(&rt, 0, 1, 2)?;
-    desk.join(&rt, 0, 1, 2)?;
+    desk.join(&rt, 0, 1, 2);
+    desk.join(&rt, 0, 1, 2);
     assert!(rt; desk.gives(ALL, UNKNOWN, 13, 21));
-    Ok(())
 }
 
 // Part 1 takes 1 state and 1 arc, then 3 and 2; part 2 takes 1 and 1, then 2 and 1; part 0 takes 1 and 1, then 4 and 3,
 // then 5 and 5 for the concatenation. The last product has the pairs (0, 0), (1, 1), (1, 3), (2, 2), (2, 3) and (3, 4),
 // and an arc to each but the first.
 #[test]
-fn the_first_beginning_leaves_too_much(rt: HostRuntime) -> Result<(), Fail> {
+fn the_first_beginning_leaves_too_much(rt: HostRuntime) {
     let mut desk = Desk::new(3);
     let a_or_ab: Table<'_, Text> = Table {
         states: &[state(true, false), state(false, true), state(false, true)],
@@ -358,23 +344,22 @@ fn the_first_beginning_leaves_too_much(rt: HostRuntime) -> Result<(), Fail> {
             arc(1, Text::range(98, 98), 2),
         ],
     };
-    desk.table(&rt, 1, &a_or_ab)?;
-    desk.text(&rt, 2, &[99])?;
-    desk.text(&rt, 0, &[97, 98, 99])?;
-    desk.join(&rt, 0, 1, 2)?;
+    desk.table(&rt, 1, &a_or_ab);
+    desk.text(&rt, 2, &[99]);
+    desk.text(&rt, 0, &[97, 98, 99]);
+    desk.join(&rt, 0, 1, 2);
     assert!(rt; desk.gives(ALL, POSSIBLE, 23, 19));
     assert!(rt; desk.has_word(0, 0, &[97, 98, 99]));
     assert!(rt; desk.has_word(1, 0, &[97, 98]));
     assert!(rt; desk.has_word(2, 2, &[99]));
-    Ok(())
 }
 
 // The final results have 3 and 2 states, so the words may have 2 letters and 1.
 #[test]
-fn two_roots(rt: HostRuntime) -> Result<(), Fail> {
+fn two_roots(rt: HostRuntime) {
     let mut desk = Desk::new(2);
-    desk.text(&rt, 0, &[65, 66])?;
-    desk.text(&rt, 1, &[67])?;
+    desk.text(&rt, 0, &[65, 66]);
+    desk.text(&rt, 1, &[67]);
     assert!(rt; desk.gives(Lent { words: 1, ..ALL }, full(Full::Words, 0), 7, 5));
     assert!(rt; desk.gives(Lent { words: 2, ..ALL }, full(Full::Words, 1), 7, 5));
     assert!(rt; desk.stays());
@@ -383,14 +368,13 @@ fn two_roots(rt: HostRuntime) -> Result<(), Fail> {
     assert!(rt; desk.has_word(1, 2, &[67]));
     assert!(rt; desk.report_stays_from(2));
     assert!(rt; desk.words_stay_from(3));
-    Ok(())
 }
 
 // Lost rows are looked at before the report.
 #[test]
-fn refusals(rt: HostRuntime) -> Result<(), Fail> {
+fn refusals(rt: HostRuntime) {
     let mut desk = Desk::new(2);
-    desk.text(&rt, 0, &[65])?;
+    desk.text(&rt, 0, &[65]);
     let report = Lent { report: 1, ..ALL };
     assert_eq!(rt; desk.refusal(report), 8);
     assert_eq!(rt; desk.refusal(Lent { states: 1, ..ALL }), 5);
@@ -406,5 +390,4 @@ fn refusals(rt: HostRuntime) -> Result<(), Fail> {
     // the held arc leads outside
     desk.arcs[0].to = 2;
     assert_eq!(rt; desk.refusal(report), 5);
-    Ok(())
 }
