@@ -1,4 +1,6 @@
 // Alphabets. A letter is a number below the alphabet's count, and a label stands for a set of letters.
+#![tactic(auto)]
+
 ghost use Rattle.std.specs.Prelude.{◌≡◌, ℕ};
 ghost use Rattle.alphabet.specs.Labels.{Labels, Lawful, Ranged};
 

@@ -1,4 +1,5 @@
 // The rows of which automata are made: states with two marks, and arcs with a label.
+#![tactic(auto)]
 
 // Whether a state is one where a walk may begin, and one where it may end.
 #[derive(Clone, Copy)]

@@ -1,4 +1,6 @@
 // Small sheets with the verdicts that the rules give, shown from the definitions.
+#![tactic(auto)]
+
 ghost use Rattle.std.specs.Prelude.{◌≡◌};
 ghost use Rattle.bench.specs.Bench.{BenchStands};
 

@@ -6,7 +6,6 @@ use Rattle.std.proofs.lemmas.List.{length-take, length-drop, length-map, get_or-
 use Rattle.automaton.specs.declared.Arc.{Arc}
 use Rattle.automaton.specs.declared.State.{State}
 use Rattle.automaton.specs.Automaton.{Inside}
-use Rattle.build.specs.declared.Rows.{Rows}
 use Rattle.build.specs.declared.Place.{Place}
 use Rattle.build.specs.Tables.{part, at}
 

@@ -1,6 +1,6 @@
 -- Arc rows that were built, with the arcs of an abstract automaton that they stand for.
 use Rattle.std.specs.Prelude.{◌≡◌, ℕ, ◌+◌, ◌-◌, ◌<◌, ◌≤◌, ◌⊎◌, List, length, Ok, Err, Result, slice_index_or, slice_set}
-use Rattle.std.specs.List.{ContainsAt as Has, AllByRecursion as All}
+use Rattle.std.specs.List.{ContainsAt as Has, AllByRecursion}
 use Rattle.alphabet.specs.Labels.{Labels}
 use Rattle.automaton.specs.declared.State.{State}
 use Rattle.automaton.specs.declared.Arc.{Arc}
@@ -25,7 +25,7 @@ pub record StandsFor {S X L : Type 0} (nfa : Nfa S X L) (name : ℕ → S) (n : 
 pub record Emitted {S X L : Type 0} (nfa : Nfa S X L) (name : ℕ → S) (n : ℕ) (rows : List (Arc L)) (sources : List X) : Type 0 where
   pub long : length rows ≡ length sources
   pub stands : (k : ℕ) (d : Arc L) (x : X) → k < length sources → StandsFor nfa name n (slice_index_or rows k d) (slice_index_or sources k x)
-  pub arrows : All nfa.Arrow sources
+  pub arrows : AllByRecursion nfa.Arrow sources
   pub once : Distinct sources
 
 -- the pair of a built state

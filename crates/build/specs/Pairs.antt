@@ -1,6 +1,6 @@
 -- The pairs of states that lie in built rows.
 use Rattle.std.specs.Prelude.{◌≡◌, ℕ, ◌+◌, ◌<◌, ◌≤◌, true, ◌&&◌, List, [], ◌∷◌, ◌++◌, map, length, Ok, Err, Result, slice_index_or}
-use Rattle.std.specs.List.{ContainsAt as Has, AllByRecursion as All}
+use Rattle.std.specs.List.{ContainsAt as Has, AllByRecursion}
 use Rattle.alphabet.specs.Labels.{Labels}
 use Rattle.automaton.specs.declared.Marks.{Marks}
 use Rattle.automaton.specs.declared.State.{State}
@@ -61,9 +61,9 @@ marks_of job states arcs p q = both (slice_index_or (left_of job states arcs).st
 -- n rows are built, for pairs that are reachable, no two the same
 pub record Sofar {L : Type 0} (a : Labels L) (job : Operands) (arcs : List (Arc L)) (states : List State) (n : ℕ) : Type 0 where
   pub room : job.used.states + n ≤ state_room states
-  pub reached : All (λ x. (product_of a job states arcs).State x) (pairs job states n)
+  pub reached : AllByRecursion (λ x. (product_of a job states arcs).State x) (pairs job states n)
   pub once : Distinct (pairs job states n)
-  pub marked : All (λ s. s.marks ≡ marks_of job states arcs s.left s.right) (part states job.used.states n)
+  pub marked : AllByRecursion (λ s. s.marks ≡ marks_of job states arcs s.left s.right) (part states job.used.states n)
 
 -- rows were added behind those that were built
 pub record Grown (job : Operands) (before after : List State) (n m : ℕ) : Type 0 where
@@ -96,4 +96,4 @@ ClosedAt a m k x ps = (e : ℕ) → e < length m.arcs → (arc_at a m e).from �
 
 -- nothing leads out of the pairs
 abbrev pub Closed : {L : Type 0} → Labels L → Automaton L → Automaton L → List Pair → Type 0
-Closed a m k ps = All (λ x. ClosedAt a m k x ps) ps
+Closed a m k ps = AllByRecursion (λ x. ClosedAt a m k x ps) ps

@@ -1,6 +1,6 @@
 // The automaton of all words: one state, initial and accepting, and one arc to itself on the full label.
 ghost use Rattle.std.specs.Prelude.{◌<◌, ◌↔◌};
-ghost use Rattle.std.specs.List.{AllByRecursion as All};
+ghost use Rattle.std.specs.List.{AllByRecursion};
 ghost use Rattle.automaton.specs.Automaton.{Accepts, Word};
 ghost use Rattle.automaton.specs.Nfa.{all_words};
 ghost use Rattle.build.specs.Outcome.{Answer, Meant};
@@ -18,7 +18,7 @@ pub fn all_words<A: Alphabet>(
     used: Rows,
 ) -> Result<Place, Stop>
     ensures answers { Answer (InUse states.old arcs.old used) A.Alphabet.labels (all_words A.Alphabet.labels) used states.new arcs.new result }
-    ensures accepts_every_word { Meant result (λ p. (w : Word) → Accepts A.Alphabet.labels.admits (at states.new arcs.new p) w ↔ All (λ c. c < A.Alphabet.labels.letters) w) }
+    ensures accepts_every_word { Meant result (λ p. (w : Word) → Accepts A.Alphabet.labels.admits (at states.new arcs.new p) w ↔ AllByRecursion (λ c. c < A.Alphabet.labels.letters) w) }
     ensures keeps_states { Kept used.states states.old states.new }
     ensures keeps_arcs { Kept used.arcs arcs.old arcs.new }
 {

@@ -1,4 +1,6 @@
 // Builds over lent rows: the automata read and the automaton built lie in the same two tables.
+#![tactic(auto)]
+
 pub mod all_words;
 pub mod concat;
 pub mod operand;

@@ -1,4 +1,5 @@
 // Examples of what the alphabets, the tables, the fixed texts, the builds and the sheets answer.
+#![tactic(auto)]
 
 #[cfg(test)]
 mod builds;

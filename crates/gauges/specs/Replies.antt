@@ -1,6 +1,6 @@
 -- The lines of an input, and the replies that the weir station waits for.
 use Rattle.std.specs.Prelude.{◌≡◌, ℕ, ◌<◌, ◌≤◌, true, false, ◌⊎◌, List, [], ◌∷◌, ◌++◌, ◌≢◌}
-use Rattle.std.specs.List.{AllByRecursion as All}
+use Rattle.std.specs.List.{AllByRecursion}
 use Rattle.alphabet.specs.Modem.{modem, marks_from_to}
 use Rattle.alphabet.specs.declared.modem.ModemLabel.{ModemLabel}
 use Rattle.automaton.specs.declared.Arc.{Arc}
@@ -24,9 +24,9 @@ wait_arcs = record { from = 0; label = marks_from_to 48 57; to = 1 } ∷ record 
 -- what they accept, in words: a digit, then any letters of the modem
 abbrev pub Awaited : Word → Type 0
 Awaited [] = ⊥
-Awaited (c ∷ w) = (48 ≤ c) × (c ≤ 57) × All (λ x. x < 128) w
+Awaited (c ∷ w) = (48 ≤ c) × (c ≤ 57) × AllByRecursion (λ x. x < 128) w
 
 -- the first line of some bytes, and what follows its line end, if there is one
 pub record Cut (bytes line rest : List ℕ) : Type 0 where
-  pub plain : All (λ b. b ≢ 10) line
+  pub plain : AllByRecursion (λ b. b ≢ 10) line
   pub whole : (bytes ≡ line ++ 10 ∷ rest) ⊎ ((bytes ≡ line) × (rest ≡ []))

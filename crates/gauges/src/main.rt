@@ -1,6 +1,8 @@
 // Holds replies, one to a line of standard input, against the weir station's wait, a fixed text, and what the
 // station sends: an optional acknowledgement and then the level. Then enters the bridge station's sheet. Asked to
 // solve, it solves the sheets of the weir and the bridge station instead.
+#![tactic(auto)]
+
 mod bridge;
 mod lines;
 mod reply;

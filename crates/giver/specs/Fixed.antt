@@ -1,6 +1,6 @@
 -- The automaton of a fixed text.
 use Rattle.std.specs.Prelude.{◌≡◌, ℕ, ◌+◌, ◌<◌, ◌↔◌, List, [], ◌∷◌, map, length, ◌==◌}
-use Rattle.std.specs.List.{range_with_len, AllByRecursion as All}
+use Rattle.std.specs.List.{range_with_len, AllByRecursion}
 use Rattle.alphabet.specs.Labels.{Labels}
 use Rattle.automaton.specs.declared.Marks.{Marks}
 use Rattle.automaton.specs.declared.Arc.{Arc}
@@ -20,4 +20,4 @@ chain range w = record { states = map (chain_marks (length w)) (range_with_len 0
 
 -- the automaton of a text accepts that one word, and nothing where the alphabet lacks a letter of it
 abbrev pub AcceptsJust : {L : Type 0} → Labels L → (ℕ → ℕ → L) → Word → Type 0
-AcceptsJust a range text = (w : Word) → Accepts a.admits (chain range text) w ↔ ((w ≡ text) × All (λ c. c < a.letters) text)
+AcceptsJust a range text = (w : Word) → Accepts a.admits (chain range text) w ↔ ((w ≡ text) × AllByRecursion (λ c. c < a.letters) text)

@@ -1,4 +1,6 @@
 // Pattern givers: each means one automaton and tells it piece by piece.
+#![tactic(auto)]
+
 ghost use Rattle.std.specs.Prelude.{◌≡◌, length};
 ghost use Rattle.automaton.specs.Automaton.{Automaton, arc_at};
 ghost use Rattle.giver.specs.Told.{marks_at, number};

@@ -1,4 +1,6 @@
 // A sheet: the parts of a reply, the patterns that limit them, and the joins between them.
+#![tactic(auto)]
+
 ghost use Rattle.std.specs.Prelude.{◌≡◌, ◌≤◌, length, take};
 ghost use Rattle.sheet.specs.Joins.{Acyclic, Known};
 ghost use Rattle.sheet.specs.Patterns.{Among, ForParts};

@@ -9,7 +9,7 @@ use Rattle.automaton.specs.declared.Arc.{Arc}
 use Rattle.automaton.specs.declared.State.{State}
 use Rattle.automaton.proofs.Counting.{pigeonhole}
 use Rattle.build.specs.declared.Rows.{Rows}
-use Rattle.build.specs.Tables.{at, InUse, Stands}
+use Rattle.build.specs.Tables.{InUse, Stands}
 use Rattle.build.proofs.Keeping.{kept_none, kept_more, kept_less}
 use Rattle.sheet.specs.declared.Held.{Held}
 use Rattle.sheet.specs.Calls.{View}

@@ -1,6 +1,6 @@
 -- What solving a sheet answers and leaves.
 use Rattle.std.specs.Prelude.{◌≡◌, ℕ, ◌<◌, ◌≤◌, ◌↔◌, List, [], ◌∷◌, length, drop, Ok, Err, Result}
-use Rattle.std.specs.List.{ContainsAt as Has, AllByRecursion as All}
+use Rattle.std.specs.List.{ContainsAt as Has, AllByRecursion}
 use Rattle.alphabet.specs.Labels.{Labels}
 use Rattle.automaton.specs.declared.Arc.{Arc}
 use Rattle.automaton.specs.declared.State.{State}
@@ -106,7 +106,7 @@ pub record Reports {L : Type 0} (a : Labels L) (v : View) (states : List State) 
 -- a word of letters that all patterns of the part accept and that, for each of its joins, splits into a word that
 -- the automaton of the left part's row accepts and one that the right part's accepts
 pub record RowAllows {L : Type 0} (a : Labels L) (s : Problem L) (states : List State) (arcs : List (Arc L)) (report : List Row) (p : ℕ) (w : Word) : Type 0 where
-  pub letters : All (λ c. c < a.letters) w
+  pub letters : AllByRecursion (λ c. c < a.letters) w
   pub patterns : (h : Pattern L) → Has s.patterns h → h.part ≡ p → Accepts a.admits h.automaton w
   pub joins : (j : Join) → Has s.joins j → j.whole ≡ p → InTurn a.admits (automaton_of states arcs report j.left) (automaton_of states arcs report j.right) w
 

@@ -1,4 +1,6 @@
 // Solving a sheet: whether there are words for its parts, and such words.
+#![tactic(auto)]
+
 ghost use Rattle.std.specs.Prelude.{◌≡◌, length};
 ghost use Rattle.build.specs.Tables.{Kept};
 ghost use Rattle.sheet.specs.Calls.{view};

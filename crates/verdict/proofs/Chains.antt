@@ -9,7 +9,7 @@ use Rattle.sheet.specs.Joins.{Uses, Below, one, Acyclic, Known, AtOrBelow}
 use Rattle.sheet.proofs.Circles.{below_then}
 use Rattle.verdict.specs.Course.{Done, find, Finished, Due}
 use Rattle.verdict.specs.Problem.{Problem}
-use Rattle.verdict.specs.Verdicts.{uses_in, uses, Root}
+use Rattle.verdict.specs.Verdicts.{uses_in, Root}
 use Rattle.verdict.proofs.Finding.{has_none, has_first, has_rest, has_cases}
 
 -- Steps between numbers below n end, where they go along a transitive relation in which no number stands to itself:

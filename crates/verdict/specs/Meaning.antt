@@ -1,18 +1,18 @@
 -- What a course and a verdict mean for the words of the parts.
 use Rattle.std.specs.Prelude.{◌≡◌, ℕ, ◌<◌, ◌↔◌, List, []}
-use Rattle.std.specs.List.{ContainsAt as Has, AllByRecursion as All}
+use Rattle.std.specs.List.{ContainsAt as Has, AllByRecursion}
 use Rattle.alphabet.specs.Labels.{Labels}
 use Rattle.automaton.specs.Automaton.{Word, Accepts}
 use Rattle.build.specs.declared.Rows.{Rows}
 use Rattle.build.specs.Concats.{InTurn}
 use Rattle.sheet.specs.declared.Join.{Join}
-use Rattle.verdict.specs.Course.{Done, Finished, result_of, Outcome, finished_in, no_word, Course}
+use Rattle.verdict.specs.Course.{Done, Finished, result_of, Outcome, finished_in, Course}
 use Rattle.verdict.specs.Problem.{Problem, Pattern, Satisfies}
 
 -- a word of letters that all patterns of the part accept and that, for each of its joins, splits into a word
 -- that the left part's result accepts and one that the right part's accepts
 pub record Allowed {L : Type 0} (a : Labels L) (s : Problem L) (ds : List (Done L)) (p : ℕ) (w : Word) : Type 0 where
-  pub letters : All (λ c. c < a.letters) w
+  pub letters : AllByRecursion (λ c. c < a.letters) w
   pub patterns : (h : Pattern L) → Has s.patterns h → h.part ≡ p → Accepts a.admits h.automaton w
   pub joins : (j : Join) → Has s.joins j → j.whole ≡ p → InTurn a.admits (result_of ds j.left) (result_of ds j.right) w
 

@@ -1,6 +1,6 @@
 -- What is asked of the words of a sheet's parts. A sheet with its tables is a problem.
 use Rattle.std.specs.Prelude.{◌≡◌, ℕ, ◌<◌, List, ◌++◌, map}
-use Rattle.std.specs.List.{ContainsAt as Has, AllByRecursion as All}
+use Rattle.std.specs.List.{ContainsAt as Has, AllByRecursion}
 use Rattle.alphabet.specs.Labels.{Labels}
 use Rattle.automaton.specs.declared.Arc.{Arc}
 use Rattle.automaton.specs.declared.State.{State}
@@ -33,6 +33,6 @@ problem s states arcs = record { parts = s.parts; patterns = map (read states ar
 -- one word for each part, of letters of the alphabet: every pattern accepts its part's word, and in every join
 -- the word of the whole is that of the left followed by that of the right
 pub record Satisfies {L : Type 0} (a : Labels L) (s : Problem L) (words : ℕ → Word) : Type 0 where
-  pub letters : (p : ℕ) → p < s.parts → All (λ c. c < a.letters) (words p)
+  pub letters : (p : ℕ) → p < s.parts → AllByRecursion (λ c. c < a.letters) (words p)
   pub patterns : (h : Pattern L) → Has s.patterns h → Accepts a.admits h.automaton (words h.part)
   pub joins : (j : Join) → Has s.joins j → words j.whole ≡ words j.left ++ words j.right

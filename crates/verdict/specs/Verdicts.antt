@@ -4,7 +4,6 @@ use Rattle.alphabet.specs.Labels.{Labels}
 use Rattle.build.specs.declared.Rows.{Rows}
 use Rattle.sheet.specs.declared.Join.{Join}
 use Rattle.verdict.specs.declared.Solved.{Solved}
-use Rattle.verdict.specs.declared.Table.{Table}
 use Rattle.verdict.specs.declared.Table.TheVariants.{Words}
 use Rattle.verdict.specs.declared.Verdict.{Verdict}
 use Rattle.verdict.specs.declared.Verdict.TheVariants.{OutOfRoom, Impossible, Unknown, Possible}

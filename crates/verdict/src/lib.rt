@@ -1,4 +1,6 @@
 // What solving a sheet answers. When each verdict is given stands in specs.
+#![tactic(auto)]
+
 use build::Rows;
 
 // A table that does not suffice.

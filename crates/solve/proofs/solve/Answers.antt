@@ -2,7 +2,6 @@ use Rattle.std.proofs.Common.{◌≡◌, ℕ, List, length, take, sym, refl, ap,
 use Rattle.std.proofs.lemmas.Bool.Decides.{not_from_Decides}
 use Rattle.build.specs.declared.Rows.{Rows}
 use Rattle.build.proofs.Keeping.{kept_none}
-use Rattle.sheet.specs.declared.Counts.{Counts}
 use Rattle.sheet.specs.declared.Join.{Join}
 use Rattle.sheet.specs.Calls.{view}
 use Rattle.sheet.proofs.Invariants.{few_parts, few_joins, for_parts, known, acyclic}
@@ -14,7 +13,6 @@ use Rattle.solve.specs.Builds.{room}
 use Rattle.solve.specs.Judging.{Joined, Ready, Judges}
 use Rattle.solve.specs.Solving.{stop_verdict, used_of}
 use Rattle.solve.proofs.Answering.{Answered, stopped_answered, ready, judged_answered, only}
-use Rattle.solve.proofs.solve.Given as given
 use Rattle.solve.proofs.solve.Goals as goal
 
 pub returns-then-not-is_whole : goal.returns-then-not-is_whole

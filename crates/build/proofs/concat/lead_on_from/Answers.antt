@@ -1,7 +1,6 @@
 use Rattle.std.proofs.Common.{ℕ, ◌+◌, List, Ok, Err, sym, refl, ap, ◌∙◌, subst₂}
 use Rattle.std.proofs.lemmas.Bool.{both_ways}
 use Rattle.automaton.specs.declared.Arc.{Arc}
-use Rattle.automaton.specs.Automaton.{initial}
 use Rattle.build.specs.Concats.{concats, side_of, Copied}
 use Rattle.build.specs.Emitted.{Written}
 use Rattle.build.specs.Tables.{Kept}

@@ -5,7 +5,6 @@ use Rattle.build.specs.Pairs.{pairs, Sofar, Grown}
 use Rattle.build.proofs.Exploring.{grown_none, row_of, sofar_add, no_room}
 use Rattle.build.proofs.Keeping.{kept_none}
 use Rattle.build.proofs.Finding.{found_has, missing}
-use Rattle.build.proofs.pairs.add.Given as given
 use Rattle.build.proofs.pairs.add.Goals as goal
 
 pub returns-then-is_some : goal.returns-then-is_some

@@ -5,7 +5,6 @@ use Rattle.automaton.specs.declared.State.{State}
 use Rattle.automaton.specs.Automaton.{unmarked}
 use Rattle.build.specs.Pairs.{pairs, left_of, right_of, product_of, ClosedAt, Closed}
 use Rattle.build.proofs.Exploring.{ClosedUpTo, ready_kept, pair_at, length_pairs, extended_none, closed_more, closed_all, stopped_by}
-use Rattle.build.proofs.pairs.close.Given as given
 use Rattle.build.proofs.pairs.close.Goals as goal
 
 abbrev blank : State

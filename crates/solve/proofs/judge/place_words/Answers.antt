@@ -26,10 +26,16 @@ place_pieces-requires g c =
     let roots = c.place_roots.ensures in
     let joined = c.requires.standing.1.0 in
     let again = roots.renumbers 0 (λ p low. omega arith) in
-    let sound = sound_still s s' e r r' roots.rewords.automata again admits parts js c.requires.sound in record { standing = (standing_still s s' e r r' roots.rewords.automata again c.args.used parts roots.rewords.long c.requires.standing.0, (joined.few_parts, joined.few_joins)); single_use = (c.requires.standing.1.1, joined.known); in_turn = sound.splits; by_index = (λ p low root. (
+    let sound = sound_still s s' e r r' roots.rewords.automata again admits parts js c.requires.sound in record {
+      standing = (standing_still s s' e r r' roots.rewords.automata again c.args.used parts roots.rewords.long c.requires.standing.0, (joined.few_parts, joined.few_joins));
+      single_use = (c.requires.standing.1.1, joined.known);
+      in_turn = sound.splits;
+      by_index = (λ p low root. (
         subst (λ m. Accepts admits m (word_at ws (row r' p).word)) (sym (at_renumbered 0 s s' e again (row r' p).automaton)) (roots.accepts p low root),
         omega (arith, roots.lays.first p low root, roots_before js (word_len r') p parts low root, roots.lays.within, roots.lays.long),
-      )); by_index_2 = rooted js parts joined.acyclic joined.known }
+      ));
+      by_index_2 = rooted js parts joined.acyclic joined.known;
+    }
 
 pub returns : goal.returns
 returns g c =

@@ -52,8 +52,13 @@ split_join-requires g c =
     let found = c.in-Some.ensures.finds in
     let parts = ends g at in
     let stand = standing g at in
-    let j = get_or c.args.joins.now c.in-Some.k none in record { whole_in_bounds = (omega (arith, parts.0, stand.rows_there), (omega (arith, parts.1, stand.rows_there), omega (arith, parts.2, stand.rows_there))); in_use = (stand.in_use, (stand.stands j.left parts.1, stand.stands j.right parts.2)); within = (inv.worded j.whole found.1).1; in_turn = still_in_turn g.A.Alphabet.labels.admits c.args.states.now c.args.arcs.now c.args.joins.now c.args.parts c.args.report.now c.args.words.now c.loop-k.placed c.loop-k.states c.loop-k.report
-          inv j (c.requires.in_turn j (has_get_or c.args.joins.now c.in-Some.k none found.0)) found.1 }
+    let j = get_or c.args.joins.now c.in-Some.k none in record {
+      whole_in_bounds = (omega (arith, parts.0, stand.rows_there), (omega (arith, parts.1, stand.rows_there), omega (arith, parts.2, stand.rows_there)));
+      in_use = (stand.in_use, (stand.stands j.left parts.1, stand.stands j.right parts.2));
+      within = (inv.worded j.whole found.1).1;
+      in_turn = still_in_turn g.A.Alphabet.labels.admits c.args.states.now c.args.arcs.now c.args.joins.now c.args.parts c.args.report.now c.args.words.now c.loop-k.placed c.loop-k.states c.loop-k.report
+          inv j (c.requires.in_turn j (has_get_or c.args.joins.now c.in-Some.k none found.0)) found.1;
+    }
 
 pub unsplit-requires : goal.unsplit-requires
 unsplit-requires g c = λ j has. let h = c.requires.single_use.1 j has in let few : c.args.parts ≤ 64 = c.requires.standing.1.0 in (omega (arith, h.0), omega (arith, h.1), omega (arith, h.2))

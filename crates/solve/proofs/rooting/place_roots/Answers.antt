@@ -21,10 +21,14 @@ place_root-end-requires g c =
     let inv = c.loop-p.invariant in
     let low = c.loop-p-test.true in
     let root = sym c.uses.ensures.counts ∙ c.if-uses-eq0.true in
-    let some = c.requires.by_index p low in record { p_in_bounds = (
+    let some = c.requires.by_index p low in record {
+      p_in_bounds = (
         omega (arith, low, c.requires.standing.0.rows_there, c.loop-p.auto.report),
         laying_room admits js parts arcs states₀ states report₀ report words₀ words p end inv low root c.requires.parts_in_bounds,
-      ); in_use = laying_stands admits js parts arcs states₀ states report₀ report words₀ words p end inv c.args.used c.requires.standing.0 low; accepts = (some.0, laying_accepts admits js parts arcs states₀ states report₀ report words₀ words p end inv some.0 some.1) }
+      );
+      in_use = laying_stands admits js parts arcs states₀ states report₀ report words₀ words p end inv c.args.used c.requires.standing.0 low;
+      accepts = (some.0, laying_accepts admits js parts arcs states₀ states report₀ report words₀ words p end inv some.0 some.1);
+    }
 
 pub loop-p-preserved : goal.loop-p-preserved
 loop-p-preserved g c =
