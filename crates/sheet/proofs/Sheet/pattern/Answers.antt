@@ -28,6 +28,6 @@ returns g c =
       answers = (
         (omega arith, (omega (arith, length-take-le s.counts.patterns s.patterns (omega (arith, s.long_patterns))), (sound.0, (sound.1, (c.if-not-whole.ensures.decides.0 refl, (room, tt)))))),
         (λ i. record { parts = s.counts.parts; patterns = (pushed ∙ counted) i; joins = take s.counts.joins s.joins; held = record { states = s.counts.held.states + states i; arcs = s.counts.held.arcs + arcs i } }),
-        record { states_kept = c.copy_states.ensures.keeps; arcs_kept = c.copy_arcs.ensures.keeps; states_are = c.copy_states.ensures.copies; arcs_are = c.copy_arcs.ensures.copies },
+        record { states_kept = assumption; arcs_kept = assumption; states_are = assumption; arcs_are = assumption },
       );
     }
