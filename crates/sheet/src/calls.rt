@@ -1,6 +1,6 @@
 // The calls on a sheet.
 ghost use Rattle.std.specs.Prelude.{◌≡◌, Decides};
-ghost use Rattle.giver.specs.Told.{number as giver-number};
+ghost use Rattle.giver.specs.Told.{number as giver_number};
 ghost use Rattle.sheet.specs.Calls.{view, number, empty, PartAnswer, PatternAnswer, JoinAnswer};
 ghost use Rattle.sheet.specs.Patterns.{Whole};
 
@@ -40,7 +40,7 @@ impl Refusal {
 }
 
 fn of_giver(e: giver::Refusal) -> Refusal
-    ensures same_number { number result ≡ giver-number e }
+    ensures same_number { number result ≡ giver_number e }
 {
     match e {
         giver::Refusal::TooLarge => Refusal::TooLarge,

@@ -8,7 +8,7 @@ ghost use Rattle.solve.specs.Builds.{room};
 ghost use Rattle.solve.specs.Solving.{SolveAnswer, OnlyAnswer, LeavesAll, Told, Reported, Reports, ReportsExactly, WhenImpossible, WhenPossible, WhenUnknown, placed, Lays, NoWords, Decided, stop_verdict, used_of};
 ghost use Rattle.verdict.specs.Meaning.{CoursesExact, Unsatisfiable};
 ghost use Rattle.verdict.specs.Problem.{problem, Satisfies};
-ghost use Rattle.verdict.specs.Verdicts.{SingleUse, totals as totals-of};
+ghost use Rattle.verdict.specs.Verdicts.{SingleUse, totals as totals_of};
 
 use crate::course::{Ended, Halt, finish_all};
 use crate::judge::judge;
@@ -42,7 +42,7 @@ pub struct Row {
 
 // The rows of all builds.
 fn totals(held: Rows, used: Rows) -> Rows
-    ensures counts { result ≡ totals-of held used }
+    ensures counts { result ≡ totals_of held used }
 {
     Rows {
         states: used.states.saturating_sub(held.states),
@@ -52,7 +52,7 @@ fn totals(held: Rows, used: Rows) -> Rows
 
 // The verdict where the builds of a part end early.
 fn stopped(held: Rows, ended: Ended) -> Solved
-    ensures names { result ≡ record { verdict = stop_verdict ended.part ended.halt; totals = totals-of held (used_of ended.halt) } }
+    ensures names { result ≡ record { verdict = stop_verdict ended.part ended.halt; totals = totals_of held (used_of ended.halt) } }
 {
     let part = ended.part;
     match ended.halt {

@@ -1,7 +1,7 @@
 // Which parts are finished, and which part is the next.
 ghost use Rattle.std.specs.Prelude.{◌≡◌, ℕ, ◌<◌, length, Decides, MatchOption, slice_index_or};
 ghost use Rattle.sheet.specs.Joins.{none};
-ghost use Rattle.verdict.specs.Course.{find as find-part};
+ghost use Rattle.verdict.specs.Course.{find as find_part};
 ghost use Rattle.solve.specs.Parts.{Among, Open};
 ghost use Rattle.solve.specs.Report.{place_of};
 
@@ -20,7 +20,7 @@ pub const NOWHERE: Held = Held {
 
 // The place of the final result of a part, if it is finished.
 pub fn find(finished: &[Held], part: usize) -> Option<Held>
-    ensures finds { result ≡ find-part (λ h. h.part) finished.now part }
+    ensures finds { result ≡ find_part (λ h. h.part) finished.now part }
 {
     for k in 0..finished.len() {
         if finished[k].part == part {

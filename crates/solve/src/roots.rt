@@ -1,7 +1,7 @@
 // The uses of the parts on right-hand sides of joins, and the room for the words of the roots.
 ghost use Rattle.std.specs.Prelude.{◌≡◌, ◌+◌, ◌<◌, ◌≤◌, length, Decides, MatchOption};
 ghost use Rattle.sheet.specs.Joins.{Known};
-ghost use Rattle.verdict.specs.Verdicts.{uses as uses-of, SingleUse, Root, roots_below};
+ghost use Rattle.verdict.specs.Verdicts.{uses as uses_of, SingleUse, Root, roots_below};
 ghost use Rattle.solve.specs.Roots.{bound_in};
 
 use crate::parts::place_of;
@@ -10,7 +10,7 @@ use sheet::{Held, Join};
 // How often a part stands on the right-hand sides of joins.
 pub fn uses(joins: &[Join], part: usize) -> usize
     requires { length joins.now ≤ 64 }
-    ensures counts { result ≡ uses-of joins.now part }
+    ensures counts { result ≡ uses_of joins.now part }
 {
     let mut n = 0;
     for join in joins {
