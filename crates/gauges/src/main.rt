@@ -140,16 +140,16 @@ fn solve_sheets(rt: &HostRuntime) -> anyhow::Result<()> {
     Ok(())
 }
 
-// Whether the first word of the command line asks for it.
-fn is_asked_to_solve(rt: &HostRuntime) -> anyhow::Result<bool> {
-    match env::args(rt)?.nth(1) {
-        Some(word) => Ok(word.as_str() == "solve"),
-        None => Ok(false),
+// Whether the first word of the command line asks for it. A command line that cannot be read asks for nothing.
+fn is_asked_to_solve(rt: &HostRuntime) -> bool {
+    match env::args(rt) {
+        Ok(mut words) => words.nth(1).is_some_and(|word| word.as_str() == "solve"),
+        Err(_) => false,
     }
 }
 
 fn run(rt: &HostRuntime) -> anyhow::Result<()> {
-    if is_asked_to_solve(rt)? {
+    if is_asked_to_solve(rt) {
         solve_sheets(rt)
     } else {
         hold_replies(rt)
