@@ -1,6 +1,6 @@
 // Whether an automaton accepts a word, by running it along the word. The set of states that it can be in is kept in
 // the two numbers of its own rows: left is 1 for the states of the set, and right for those of the next one.
-ghost use Rattle.std.specs.Prelude.{◌≡◌, ℕ, ◌+◌, ◌<◌, ◌≤◌, length, set, Decides, slice_set};
+ghost use Rattle.std.specs.Prelude.{◌≡◌, ℕ, ◌+◌, ◌<◌, ◌≤◌, length, Decides, slice_set};
 ghost use Rattle.automaton.specs.Automaton.{Accepts};
 ghost use Rattle.build.specs.Tables.{InUse, Stands, at};
 ghost use Rattle.words.specs.Membership.{row, Placed, Rewritten, begun, advanced, entered, Followed, Reached, SomeAccepts};
