@@ -8,7 +8,7 @@ pub const LETTERS: usize = 128;
 
 pub struct Modem;
 
-#[derive(Clone, Copy)]
+#[derive(Clone, Copy, Debug, PartialEq, Eq)]
 pub struct ModemLabel {
     pub marks: [bool; LETTERS],
 }

@@ -9,7 +9,7 @@ pub const LETTERS: u32 = 196_608;
 pub struct Text;
 
 // The letters from lo to hi, both included. Ends past the last letter are allowed.
-#[derive(Clone, Copy)]
+#[derive(Clone, Copy, Debug, PartialEq, Eq)]
 pub struct TextLabel {
     pub lo: u32,
     pub hi: u32,

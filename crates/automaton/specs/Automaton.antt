@@ -17,6 +17,10 @@ pub record Automaton (L : Type 0) : Type 0 where
 abbrev pub unmarked : Marks
 unmarked = record { initial = false; accepting = false }
 
+-- a state row with 0 in both numbers
+abbrev pub plain : Marks → State
+plain s = record { marks = s; left = 0; right = 0 }
+
 abbrev pub initial : {L : Type 0} → Automaton L → ℕ → Bool
 initial m q = (get_or m.states q unmarked).initial
 

@@ -3,3 +3,4 @@ pub mod Emitted
 pub mod Outcome
 pub mod Pairs
 pub mod Tables
+pub mod Tails

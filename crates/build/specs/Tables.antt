@@ -22,6 +22,10 @@ part rows first n = take n (drop first rows)
 abbrev pub at : {L : Type 0} → List State → List (Arc L) → Place → Automaton L
 at states arcs p = of_rows (part states p.first.states p.count.states) (part arcs p.first.arcs p.count.arcs)
 
+-- the rows before the end of a place, which the numbers of a table count
+abbrev pub end : Place → Rows
+end p = record { states = min (p.first.states + p.count.states) 18446744073709551615; arcs = min (p.first.arcs + p.count.arcs) 18446744073709551615 }
+
 -- an arc of the automaton at a place
 abbrev pub arc_in : {L : Type 0} → Labels L → List (Arc L) → Place → ℕ → Arc L
 arc_in a arcs p k = slice_index_or (part arcs p.first.arcs p.count.arcs) k (record { from = 0; label = a.full; to = 0 })

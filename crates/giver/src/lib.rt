@@ -13,7 +13,7 @@ pub mod fixed;
 pub mod table;
 
 // Why an automaton is refused.
-#[derive(Clone, Copy)]
+#[derive(Clone, Copy, Debug, PartialEq, Eq)]
 pub enum Refusal {
     // more than 256 states or 4,096 arcs
     TooLarge,

@@ -18,7 +18,7 @@ pub const MAX_PATTERNS: usize = 128;
 pub const MAX_JOINS: usize = 64;
 
 // What a sheet holds, counted: parts, patterns, joins, state rows and arc rows.
-#[derive(Clone, Copy)]
+#[derive(Clone, Copy, Debug, PartialEq, Eq, Default)]
 pub struct Counts {
     pub parts: usize,
     pub patterns: usize,
@@ -27,21 +27,21 @@ pub struct Counts {
 }
 
 // A held pattern: the part that it limits, and where its rows lie.
-#[derive(Clone, Copy)]
+#[derive(Clone, Copy, Debug, PartialEq, Eq, Default)]
 pub struct Held {
     pub part: usize,
     pub place: Place,
 }
 
 // The word of the whole is that of the left followed by that of the right.
-#[derive(Clone, Copy)]
+#[derive(Clone, Copy, Debug, PartialEq, Eq, Default)]
 pub struct Join {
     pub whole: usize,
     pub left: usize,
     pub right: usize,
 }
 
-#[derive(Clone, Copy)]
+#[derive(Clone, Copy, Debug, PartialEq, Eq)]
 pub enum Refusal {
     // a part number is not below the count
     UnknownPart,

@@ -27,14 +27,14 @@ mod rooting;
 mod roots;
 
 // Where a word lies in the words table.
-#[derive(Clone, Copy)]
+#[derive(Clone, Copy, Debug, PartialEq, Eq, Default)]
 pub struct Span {
     pub first: usize,
     pub len: usize,
 }
 
 // A row of the report: where the final states and arcs of a part lie, and its word.
-#[derive(Clone, Copy)]
+#[derive(Clone, Copy, Debug, PartialEq, Eq, Default)]
 pub struct Row {
     pub automaton: Place,
     pub word: Span,

@@ -4,14 +4,14 @@
 use build::Rows;
 
 // A table that does not suffice.
-#[derive(Clone, Copy)]
+#[derive(Clone, Copy, Debug, PartialEq, Eq)]
 pub enum Table {
     States,
     Arcs,
     Words,
 }
 
-#[derive(Clone, Copy)]
+#[derive(Clone, Copy, Debug, PartialEq, Eq)]
 pub enum Verdict {
     // the table has no room for a build of the part, or for the word of a root
     OutOfRoom { table: Table, part: usize },
@@ -24,7 +24,7 @@ pub enum Verdict {
 }
 
 // A verdict, and the rows of all finished builds together.
-#[derive(Clone, Copy)]
+#[derive(Clone, Copy, Debug, PartialEq, Eq)]
 pub struct Solved {
     pub verdict: Verdict,
     pub totals: Rows,
