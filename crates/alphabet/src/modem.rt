@@ -2,6 +2,8 @@
 ghost use Rattle.alphabet.specs.Modem.{modem, marks_from_to};
 ghost use Rattle.alphabet.specs.Marking;
 
+use std::array;
+
 use crate::{Alphabet, RangedAlphabet};
 
 pub const LETTERS: usize = 128;
@@ -27,25 +29,17 @@ impl Alphabet for Modem {
     }
 
     fn admits(label: &ModemLabel, letter: u32) -> bool {
-        let c = letter as usize;
-        c < LETTERS && label.marks[c]
+        label.marks.get(letter as usize).copied().unwrap_or(false)
     }
 
     fn meet(a: &ModemLabel, b: &ModemLabel) -> ModemLabel {
-        let mut marks = [false; LETTERS];
-        for c in 0..LETTERS {
-            marks[c] = a.marks[c] & b.marks[c];
+        ModemLabel {
+            marks: array::from_fn(|c| a.marks[c] & b.marks[c]),
         }
-        ModemLabel { marks }
     }
 
     fn first(label: &ModemLabel) -> Option<u32> {
-        for c in 0..LETTERS {
-            if label.marks[c] {
-                return Some(c as u32);
-            }
-        }
-        None
+        label.marks.iter().position(|mark| *mark).map(|c| c as u32)
     }
 }
 
@@ -55,10 +49,8 @@ impl RangedAlphabet for Modem {
     ghost ranged = { Marking.ranged };
 
     fn range(lo: u32, hi: u32) -> ModemLabel {
-        let mut marks = [false; LETTERS];
-        for c in 0..LETTERS {
-            marks[c] = (lo as usize <= c) & (c <= hi as usize);
+        ModemLabel {
+            marks: array::from_fn(|c| (lo as usize <= c) & (c <= hi as usize)),
         }
-        ModemLabel { marks }
     }
 }

@@ -30,7 +30,7 @@ impl Alphabet for Text {
     }
 
     fn admits(label: &TextLabel, letter: u32) -> bool {
-        letter < LETTERS && label.lo <= letter && letter <= label.hi
+        letter < LETTERS && (label.lo..=label.hi).contains(&letter)
     }
 
     fn meet(a: &TextLabel, b: &TextLabel) -> TextLabel {
@@ -41,11 +41,7 @@ impl Alphabet for Text {
     }
 
     fn first(label: &TextLabel) -> Option<u32> {
-        if label.lo <= label.hi && label.lo < LETTERS {
-            Some(label.lo)
-        } else {
-            None
-        }
+        (label.lo <= label.hi && label.lo < LETTERS).then_some(label.lo)
     }
 }
 

@@ -1,7 +1,10 @@
-use Rattle.std.proofs.Common.{arith}
-use Rattle.alphabet.specs.Marking.{marking_all}
+use Rattle.std.proofs.Common.{rules, refl, ◌≡◌, ◌&&◌}
+use Rattle.alphabet.specs.Modem.{marked}
+use Rattle.alphabet.proofs.Filling.{marking_filled}
 use Rattle.alphabet.proofs.modem.ModemAlphabet.meet.Goals as goal
 
 pub returns : goal.returns
 returns c =
-    record { is_meet = marking_all _ c.loop-c.marks c.loop-c.invariant.0 (λ k h. c.loop-c.invariant.1 k (omega arith)) }
+    let l = c.args.a.now in
+    let r = c.args.b.now in
+    record { is_meet = marking_filled _ (λ f. (f.0.now ≡ l) × (f.1.now ≡ r)) (λ k. marked l k && marked r k) (λ f g k b low kept called. (search rules, search rules)) _ _ (refl, refl) c.from_fn.ensures.items }
