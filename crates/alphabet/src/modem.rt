@@ -2,9 +2,8 @@
 ghost use Rattle.alphabet.specs.Modem.{modem, marks_from_to};
 ghost use Rattle.alphabet.specs.Marking;
 
-use std::array;
-
 use crate::{Alphabet, RangedAlphabet};
+use std::array;
 
 pub const LETTERS: usize = 128;
 

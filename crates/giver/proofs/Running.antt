@@ -1,12 +1,13 @@
 -- What a run of an automaton along a word keeps.
-use Rattle.std.proofs.Common.{◌≡◌, ℕ, ◌+◌, ◌<◌, ◌≤◌, Bool, true, false, List, [], ◌∷◌, ◌++◌, length, get_or, set, replicate, Decides, sym, refl, ap, ◌∙◌, subst, ⊎_elim, arith}
-use Rattle.std.specs.List.{ContainsAt as Has}
+use Rattle.std.proofs.Common.{◌≡◌, ℕ, ◌+◌, ◌<◌, ◌≤◌, Bool, true, false, List, [], ◌∷◌, ◌++◌, length, get_or, set, replicate, Decides, MatchBool, zero-add, sym, refl, ap, ◌∙◌, subst, ⊎_elim, arith}
+use Rattle.std.specs.List.{ContainsAt as Has, range_with_len, AllWithin, HoldsAt}
 use Rattle.std.proofs.ByRecursion.{has_get_or}
 use Rattle.std.proofs.lemmas.List.{length-set, length-replicate, get_or-replicate, get_or_past, get_or-set_same, get_or-set_other}
-use Rattle.std.proofs.lemmas.Bool.{cases_lt, cases_eq, both_ways}
+use Rattle.std.proofs.lemmas.Bool.{cases_lt, cases_eq, both_ways, false≢true}
+use Rattle.std.proofs.lemmas.List.FromFn.{length-range_with_len, get_or-range_with_len}
 use Rattle.alphabet.specs.Labels.{Labels, Set}
 use Rattle.automaton.specs.declared.Arc.{Arc}
-use Rattle.automaton.specs.Automaton.{Automaton, Word, Walk, stay, Accepts, initial, accepting, unmarked, arc_at}
+use Rattle.automaton.specs.Automaton.{Automaton, Word, Walk, stay, Accepts, Inside, initial, accepting, unmarked, arc_at}
 use Rattle.automaton.proofs.Walks.{walk_nil, walk_split, walk_push, walk_letter}
 use Rattle.giver.specs.Run.{In, Reached, Stepped, SomeAccepts}
 
@@ -21,6 +22,25 @@ module _ {L : Type 0} (a : Labels L) (m : Automaton L) where
   -- what holds of every arc that is told holds of every arc
   pub arc_every : (P : Arc L → Type 0) → ((k : ℕ) → k < length m.arcs → P (arc_at a m k)) → (b : Arc L) → Has m.arcs b → P b
   arc_every P h b has = subst P (has.2 _) (h has.0 has.1)
+
+  -- the arc at a place leads from a state to a state
+  abbrev pub ArcInside : ℕ → Type 0
+  ArcInside k = ((arc_at a m k).from < length m.states) × ((arc_at a m k).to < length m.states)
+
+  -- a test of the arcs in turn decides whether all do
+  pub inside_told : (b : Bool) → let places = range_with_len 0 (length m.arcs) in
+      MatchBool b (AllWithin ArcInside places 0 (length places)) ((k : ℕ) × (k < length places) × HoldsAt (λ i. ArcInside i → ⊥) places k) → Decides b (Inside m)
+  inside_told true h = (
+    λ _. arc_every (λ x. (x.from < length m.states) × (x.to < length m.states))
+        (λ k low. subst ArcInside (get_or-range_with_len 0 (length m.arcs) k 0 low ∙ zero-add k) (h k 0 (omega arith) (omega (arith, low, length-range_with_len 0 (length m.arcs))))),
+    λ _. refl,
+  )
+  inside_told false h = (
+    λ e. absurd (false≢true e),
+    λ inside.
+        let low : h.0 < length m.arcs = omega (arith, h.1, length-range_with_len 0 (length m.arcs)) in
+        absurd (h.2 0 (subst ArcInside (sym (get_or-range_with_len 0 (length m.arcs) h.0 0 low ∙ zero-add h.0)) (inside _ (arc_has h.0 low)))),
+  )
 
   -- the arc i is on the letter and leads from a state of the set to q
   unfoldable pub Fires : List Bool → ℕ → ℕ → ℕ → Type 0

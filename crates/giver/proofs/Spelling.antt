@@ -9,7 +9,7 @@ use Rattle.automaton.specs.Automaton.{Automaton, Word, Walk, stay, step, Inside}
 use Rattle.automaton.proofs.Walks.{walk_letters}
 use Rattle.giver.specs.Told.{Sound, Cause}
 use Rattle.giver.specs.Fixed.{chain, chain_arcs, AcceptsJust}
-use Rattle.giver.proofs.Chain.{link, length-chain_arcs, get_or-chain_arcs, length-chain_marks, chain_marks_at}
+use Rattle.giver.proofs.Chain.{link, chain_arcs_length, get_or-chain_arcs, chain_marks_length, chain_marks_at}
 
 has_head : {X : Type 0} (x : X) (xs : List X) → Has (x ∷ xs) x
 has_head x xs = (0, omega arith, λ d. refl)
@@ -21,8 +21,8 @@ has_tail x xs y h = (suc h.0, omega (arith, h.1), λ d. h.2 d)
 pub chain_inside : {L : Type 0} (range : ℕ → ℕ → L) (text : Word) → Inside (chain range text)
 chain_inside range text b has =
     let i = has.0 in
-    let n = length-chain_marks (length text) in
-    let low : i < length text = omega (arith, has.1, length-chain_arcs range 0 text) in
+    let n = chain_marks_length (length text) in
+    let low : i < length text = omega (arith, has.1, chain_arcs_length range 0 text) in
     let is : b ≡ link range i (get_or text i 0) = sym (has.2 b) ∙ get_or-chain_arcs range 0 text i b low ∙ ap (λ k. link range k (get_or text i 0)) (zero-add i) in
     let from = ap (λ x. x.from) is in
     let to = ap (λ x. x.to) is in
@@ -30,7 +30,7 @@ chain_inside range text b has =
 
 pub chain_sound : {L : Type 0} (range : ℕ → ℕ → L) (text : Word) → length text ≤ 255 → Sound (chain range text)
 chain_sound range text h =
-    ((omega (arith, length-chain_marks (length text)), omega (arith, length-chain_arcs range 0 text)), chain_inside range text)
+    ((omega (arith, chain_marks_length (length text)), omega (arith, chain_arcs_length range 0 text)), chain_inside range text)
 
 -- a sound automaton has no cause of a refusal
 pub never_refused : {L : Type 0} (m : Automaton L) (n : ℕ) → Sound m → Cause m n → ⊥
@@ -59,7 +59,7 @@ module _ {L : Type 0} {a : Labels L} {range : ℕ → ℕ → L} (laws : Lawful 
   spelt text {p} stay e = sym (drop_all p text (omega arith))
   spelt text {p} (step {c} {w} b has from yes' h) e =
       let i = has.0 in
-      let low : i < length text = omega (arith, has.1, length-chain_arcs range 0 text) in
+      let low : i < length text = omega (arith, has.1, chain_arcs_length range 0 text) in
       let is : b ≡ link range i (get_or text i 0) = sym (has.2 b) ∙ get_or-chain_arcs range 0 text i b low ∙ ap (λ n. link range n (get_or text i 0)) (zero-add i) in
       let rest = spelt text h e ∙ ap (λ n. drop n text) (ap (λ x. x.to) is) in
       let here : i ≡ p = sym (ap (λ x. x.from) is) ∙ from in

@@ -6,6 +6,7 @@ ghost use Rattle.giver.specs.Told.{Sound, Checked};
 
 use crate::{Giver, Refusal};
 use alphabet::Alphabet;
+use std::array;
 
 pub const MAX_STATES: usize = 256;
 
@@ -18,13 +19,10 @@ fn leads_inside<A: Alphabet, G: Giver<A>>(giver: &G) -> bool
     ensures decides { Decides result (Inside (G.Giver.automaton giver.now)) }
 {
     let states = giver.state_count();
-    for k in 0..giver.arc_count() {
+    (0..giver.arc_count()).all(|k| {
         let arc = giver.arc(k);
-        if arc.from >= states || arc.to >= states {
-            return false;
-        }
-    }
-    true
+        arc.from < states && arc.to < states
+    })
 }
 
 // Refuses an automaton that is too large, and then one with an arc outside.
@@ -44,11 +42,7 @@ fn start<A: Alphabet, G: Giver<A>>(giver: &G) -> StateSet
     requires { Sound (G.Giver.automaton giver.now) }
     ensures reaches { Reached A.Alphabet.labels.admits (G.Giver.automaton giver.now) [] result }
 {
-    let mut set = [false; MAX_STATES];
-    for q in 0..giver.state_count() {
-        set[q] = giver.marks(q).initial;
-    }
-    set
+    array::from_fn(|q| giver.marks(q).initial)
 }
 
 fn step<A: Alphabet, G: Giver<A>>(giver: &G, before: &StateSet, letter: u32) -> StateSet
@@ -66,15 +60,11 @@ fn step<A: Alphabet, G: Giver<A>>(giver: &G, before: &StateSet, letter: u32) -> 
 }
 
 fn some_accepts<A: Alphabet, G: Giver<A>>(giver: &G, set: &StateSet) -> bool
-    requires { Sound (G.Giver.automaton giver.now) }
     ensures decides { Decides result (SomeAccepts (G.Giver.automaton giver.now) set.now) }
 {
-    for q in 0..giver.state_count() {
-        if set[q] && giver.marks(q).accepting {
-            return true;
-        }
-    }
-    false
+    set.iter()
+        .enumerate()
+        .any(|(q, reached)| *reached && giver.marks(q).accepting)
 }
 
 // Whether the automaton accepts the word.

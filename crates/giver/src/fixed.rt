@@ -2,7 +2,7 @@
 ghost use Rattle.std.specs.Prelude.{◌≡◌};
 ghost use Rattle.giver.specs.Fixed.{chain, AcceptsJust};
 
-use crate::Giver;
+use crate::{Giver, no_arc};
 use alphabet::RangedAlphabet;
 use automaton::{Arc, Marks};
 
@@ -24,34 +24,33 @@ impl<'a> FixedText<'a> {
 impl<'a, A: RangedAlphabet> Giver<A> for FixedText<'a> {
     ghost automaton = { λ t. chain A.RangedAlphabet.between t.letters.now };
 
+    #[tactic(auto, using(crate::proofs::Chain::chain_marks_length))]
     fn state_count(&self) -> usize {
         self.letters.len() + 1
     }
 
+    #[tactic(auto, using(crate::proofs::Chain::chain_arcs_length))]
     fn arc_count(&self) -> usize {
         self.letters.len()
     }
 
+    #[tactic(auto, using(crate::proofs::Chain::chain_marks_at))]
     fn marks(&self, state: usize) -> Marks {
-        let n = self.letters.len();
         Marks {
             initial: state == 0,
-            accepting: state == n,
+            accepting: state == self.letters.len(),
         }
     }
 
+    #[tactic(auto, using(crate::proofs::Chain::chain_arc_at, crate::proofs::Chain::chain_arc_past))]
     fn arc(&self, k: usize) -> Arc<A::Label> {
-        match self.letters.get(k) {
-            Some(letter) => Arc {
+        self.letters.get(k).map_or(
+            no_arc::<A>(),
+            |letter| Arc {
                 from: k,
                 label: A::range(*letter, *letter),
                 to: k + 1,
             },
-            None => Arc {
-                from: 0,
-                label: A::full(),
-                to: 0,
-            },
-        }
+        )
     }
 }

@@ -49,3 +49,14 @@ pub trait Giver<A: Alphabet> {
     fn arc(&self, k: usize) -> Arc<A::Label>
         ensures tells_arc { result ≡ arc_at A.Alphabet.labels (automaton self.now) k };
 }
+
+// The arc from 0 to 0 on the full label, which a giver tells past its last one.
+pub fn no_arc<A: Alphabet>() -> Arc<A::Label>
+    ensures leads_nowhere { result ≡ record { from = 0; label = A.Alphabet.labels.full; to = 0 } }
+{
+    Arc {
+        from: 0,
+        label: A::full(),
+        to: 0,
+    }
+}

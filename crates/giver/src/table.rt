@@ -1,7 +1,7 @@
 // A giver over a table of rows. Its arcs may lead outside its states.
 ghost use Rattle.automaton.specs.Automaton.{of_rows};
 
-use crate::Giver;
+use crate::{Giver, no_arc};
 use alphabet::Alphabet;
 use automaton::{Arc, Marks, State};
 
@@ -23,23 +23,12 @@ impl<'a, A: Alphabet> Giver<A> for Table<'a, A> {
     }
 
     fn marks(&self, state: usize) -> Marks {
-        match self.states.get(state) {
-            Some(row) => row.marks,
-            None => Marks {
-                initial: false,
-                accepting: false,
-            },
-        }
+        self.states
+            .get(state)
+            .map_or(Marks::default(), |row| row.marks)
     }
 
     fn arc(&self, k: usize) -> Arc<A::Label> {
-        match self.arcs.get(k) {
-            Some(row) => *row,
-            None => Arc {
-                from: 0,
-                label: A::full(),
-                to: 0,
-            },
-        }
+        self.arcs.get(k).copied().unwrap_or(no_arc::<A>())
     }
 }

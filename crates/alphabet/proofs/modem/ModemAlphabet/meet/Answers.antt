@@ -1,10 +1,11 @@
-use Rattle.std.proofs.Common.{rules, refl, ◌≡◌, ◌&&◌}
+use Rattle.std.proofs.Common.{rules, refl, ap, ◌≡◌, ◌&&◌, Bool, List, false, arith}
 use Rattle.alphabet.specs.Modem.{marked}
-use Rattle.alphabet.proofs.Filling.{marking_filled}
+use Rattle.alphabet.specs.declared.modem.ModemLabel.{ModemLabel}
+use Rattle.alphabet.proofs.Filling.{filled}
 use Rattle.alphabet.proofs.modem.ModemAlphabet.meet.Goals as goal
 
 pub returns : goal.returns
 returns c =
     let l = c.args.a.now in
     let r = c.args.b.now in
-    record { is_meet = marking_filled _ (λ f. (f.0.now ≡ l) × (f.1.now ≡ r)) (λ k. marked l k && marked r k) (λ f g k b low kept called. (search rules, search rules)) _ _ (refl, refl) c.from_fn.ensures.items }
+    record { is_meet = ap (λ (m : List Bool). record { marks = m }) (filled _ (λ f. (f.0.now ≡ l) × (f.1.now ≡ r)) (λ k. marked l k && marked r k) 128 (λ f g k b low kept called. (search rules, search rules)) false _ _ (refl, refl) c.from_fn.ensures.items) }

@@ -1,8 +1,11 @@
-use Rattle.std.proofs.Common.{rules, refl, ◌≡◌}
+use Rattle.std.proofs.Common.{rules, refl, ap, ◌≡◌, Bool, List, false, arith}
 use Rattle.alphabet.specs.Labels.{from_to}
-use Rattle.alphabet.proofs.Filling.{marking_filled}
+use Rattle.alphabet.specs.declared.modem.ModemLabel.{ModemLabel}
+use Rattle.alphabet.proofs.Filling.{filled}
 use Rattle.alphabet.proofs.modem.ModemRangedAlphabet.range.Goals as goal
 
 pub returns : goal.returns
 returns c =
-    record { is_range = marking_filled _ (λ f. (f.0.now ≡ c.args.lo) × (f.1.now ≡ c.args.hi)) (from_to 128 c.args.lo c.args.hi) (λ f g k b low kept called. (search rules, search rules)) _ _ (refl, refl) c.from_fn.ensures.items }
+    let lo = c.args.lo in
+    let hi = c.args.hi in
+    record { is_range = ap (λ (m : List Bool). record { marks = m }) (filled _ (λ f. (f.0.now ≡ lo) × (f.1.now ≡ hi)) (from_to 128 lo hi) 128 (λ f g k b low kept called. (search rules, search rules)) false _ _ (refl, refl) c.from_fn.ensures.items) }
