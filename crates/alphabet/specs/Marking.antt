@@ -1,8 +1,8 @@
 -- What marks mean: the laws of the modem alphabet.
-use Rattle.std.specs.Prelude.{◌≡◌, ℕ, zero, suc, ◌+◌, ◌<◌, ◌≤◌, Bool, true, false, cond, ◌&&◌, List, length, Some, None, Option, MatchOption, nat_lt, slice_index_or, get_or, refl}
+use Rattle.std.specs.Prelude.{◌≡◌, ℕ, ◌<◌, Bool, true, false, cond, ◌&&◌, length, Some, None, MatchOption, nat_lt, slice_index_or, get_or, refl}
 use Rattle.std.proofs.Common.{sym, ap, ◌∙◌, ⊎_elim, zero-add, arith, lit≤}
-use Rattle.std.proofs.lemmas.List.FromFn.{length-range_with_len, get_or-range_with_len, get_or-map-range_with_len, fill_by_all}
-use Rattle.std.proofs.lemmas.Bool.{and_parts, and_left, ltb-true, ltb-false, lt-ltb, le-ltb, both_ways, cases_lt, cases_Bool, cases_eq}
+use Rattle.std.proofs.lemmas.List.FromFn.{length-range_with_len, get_or-range_with_len, get_or-map-range_with_len}
+use Rattle.std.proofs.lemmas.Bool.{and_parts, and_left, ltb-true, ltb-false, lt-ltb, le-ltb, both_ways, cases_lt, cases_Bool}
 use Rattle.std.specs.List.{range_with_len, position, position_or_len}
 use Rattle.std.proofs.lemmas.List.Sums.{fails_before_first, passes_at_first}
 use Rattle.alphabet.specs.Labels.{Set, Empty, Least, Lawful, Ranged, from_to}

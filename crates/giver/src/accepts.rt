@@ -12,7 +12,7 @@ pub const MAX_STATES: usize = 256;
 
 pub const MAX_ARCS: usize = 4096;
 
-// A set of states: a mark for each.
+// A set of states: a mark for each, since there is no heap.
 type StateSet = [bool; MAX_STATES];
 
 fn leads_inside<A: Alphabet, G: Giver<A>>(giver: &G) -> bool
@@ -50,6 +50,7 @@ fn step<A: Alphabet, G: Giver<A>>(giver: &G, before: &StateSet, letter: u32) -> 
     ensures steps { Stepped A.Alphabet.labels.admits (G.Giver.automaton giver.now) letter before.now result }
 {
     let mut after = [false; MAX_STATES];
+    // A giver tells an arc by its number.
     for k in 0..giver.arc_count() {
         let arc = giver.arc(k);
         if before[arc.from] && A::admits(&arc.label, letter) {
@@ -68,6 +69,7 @@ fn some_accepts<A: Alphabet, G: Giver<A>>(giver: &G, set: &StateSet) -> bool
 }
 
 // Whether the automaton accepts the word.
+#[tactic(auto, using(crate::proofs::Running::reached_accepts))]
 pub fn accepts<A: Alphabet, G: Giver<A>>(giver: &G, word: &[u32]) -> Result<bool, Refusal>
     ensures decides_acceptance { Checked (G.Giver.automaton giver.now)
         (λ b. Decides b (Accepts A.Alphabet.labels.admits (G.Giver.automaton giver.now) word.now)) result }

@@ -1,6 +1,5 @@
-use Rattle.std.proofs.Common.{rules, refl, ap, ◌≡◌, ◌&&◌, Bool, List, false, arith}
+use Rattle.std.proofs.Common.{rules, refl, ap, ◌≡◌, ◌&&◌, Bool, List, false}
 use Rattle.alphabet.specs.Modem.{marked}
-use Rattle.alphabet.specs.declared.modem.ModemLabel.{ModemLabel}
 use Rattle.alphabet.proofs.Filling.{filled}
 use Rattle.alphabet.proofs.modem.ModemAlphabet.meet.Goals as goal
 
