@@ -93,14 +93,15 @@ impl Sheet {
             arcs: giver.arc_count(),
         };
         let place = Place { first: held, count };
-        if !fits(states, arcs, place.end()) {
+        let end = place.end();
+        if !fits(states, arcs, end) {
             return Err(Refusal::NoRoom);
         }
         write_rows(states, held.states, count.states, |q| giver.marks(q).into());
         write_rows(arcs, held.arcs, count.arcs, |k| giver.arc(k));
         self.patterns[self.counts.patterns] = Held { part, place };
         self.counts.patterns += 1;
-        self.counts.held = place.end();
+        self.counts.held = end;
         Ok(())
     }
 

@@ -2,61 +2,56 @@ use Rattle.std.proofs.Common.{◌≡◌, ℕ, ◌+◌, ◌<◌, [], ◌∷◌, �
 use Rattle.std.proofs.lemmas.List.{get_or-map, length-map, length-set, length-take-le, take_more_set}
 use Rattle.automaton.specs.declared.Arc.{Arc}
 use Rattle.automaton.specs.Automaton.{plain, unmarked}
-use Rattle.build.specs.Tables.{part, end}
+use Rattle.build.specs.Tables.{part}
 use Rattle.build.specs.declared.Rows.{Rows}
 use Rattle.sheet.specs.declared.Held.{Held}
 use Rattle.sheet.specs.Calls.{rows, view}
 use Rattle.sheet.proofs.Holding.{for_parts_and, among_and, rows_are}
 use Rattle.sheet.proofs.Sheet.pattern.Given as given
 use Rattle.sheet.proofs.Sheet.pattern.Goals as goal
-use Rattle.sheet.proofs.Sheet.pattern.Goals.{After-end-self}
+use Rattle.sheet.proofs.Sheet.pattern.Goals.{After-write_rows-2}
 
 -- the new pattern
-abbrev new_held : (g : given.Over) (c : After-end-self g) → Held
+abbrev new_held : (g : given.Over) (c : After-write_rows-2 g) → Held
 new_held g c = record { part = c.args.part; place = record { first = c.args.self.now.counts.held; count = record { states = c.state_count.result; arcs = c.arc_count.result } } }
 
-pushed : (g : given.Over) (c : After-end-self g) → take (c.args.self.now.counts.patterns + 1) (set c.args.self.now.patterns c.args.self.now.counts.patterns (new_held g c)) ≡ (view c.args.self.now).patterns ++ new_held g c ∷ []
+pushed : (g : given.Over) (c : After-write_rows-2 g) → take (c.args.self.now.counts.patterns + 1) (set c.args.self.now.patterns c.args.self.now.counts.patterns (new_held g c)) ≡ (view c.args.self.now).patterns ++ new_held g c ∷ []
 pushed g c = take_more_set c.args.self.now.patterns c.args.self.now.counts.patterns (new_held g c) (omega (arith, c.args.self.now.long_patterns))
 
 -- no sum of rows passes the largest number
-end_is : (g : given.Over) (c : After-end-self g) → end (new_held g c).place ≡ rows (c.args.self.now.counts.held.states + c.state_count.result) (c.args.self.now.counts.held.arcs + c.arc_count.result)
-end_is g c =
+held_rows : (g : given.Over) (c : After-write_rows-2 g) → c.end-end.result ≡ rows (c.args.self.now.counts.held.states + c.state_count.result) (c.args.self.now.counts.held.arcs + c.arc_count.result)
+held_rows g c =
     let s = c.args.self.now in
     let small = c.in_ok-check.ensures.checked.0.0 in
-    let states = c.state_count.ensures.counts_states in
-    let arcs = c.arc_count.ensures.counts_arcs in
-    let e : min (s.counts.held.states + c.state_count.result) 18446744073709551615 ≡ s.counts.held.states + c.state_count.result = omega (arith, s.few_states, small.0, states) in
-    let f : min (s.counts.held.arcs + c.arc_count.result) 18446744073709551615 ≡ s.counts.held.arcs + c.arc_count.result = omega (arith, s.few_arcs, small.1, arcs) in
-    λ i. rows (e i) (f i)
-
-held_rows : (g : given.Over) (c : After-end-self g) → c.end-self.result ≡ rows (c.args.self.now.counts.held.states + c.state_count.result) (c.args.self.now.counts.held.arcs + c.arc_count.result)
-held_rows g c = c.end-self.ensures.ends ∙ end_is g c
+    let states : min (s.counts.held.states + c.state_count.result) 18446744073709551615 ≡ s.counts.held.states + c.state_count.result = omega (arith, s.few_states, small.0, c.state_count.ensures.counts_states) in
+    let arcs : min (s.counts.held.arcs + c.arc_count.result) 18446744073709551615 ≡ s.counts.held.arcs + c.arc_count.result = omega (arith, s.few_arcs, small.1, c.arc_count.ensures.counts_arcs) in
+    c.end-end.ensures.ends ∙ (λ i. rows (states i) (arcs i))
 
 pub invariant_of-self-clause-long_patterns : goal.invariant_of-self-clause-long_patterns
 invariant_of-self-clause-long_patterns g c =
     let s = c.args.self.now in
-    length-set s.patterns s.counts.patterns (new_held g (goal.at.invariant_of-self-clause-long_patterns g c).After-end-self) ∙ s.long_patterns
+    length-set s.patterns s.counts.patterns (new_held g (goal.at.invariant_of-self-clause-long_patterns g c).After-write_rows-2) ∙ s.long_patterns
 
 pub invariant_of-self-clause-for_parts : goal.invariant_of-self-clause-for_parts
 invariant_of-self-clause-for_parts g c =
     let s = c.args.self.now in
-    let d = (goal.at.invariant_of-self-clause-for_parts g c).After-end-self in
+    let d = (goal.at.invariant_of-self-clause-for_parts g c).After-write_rows-2 in
     rw (pushed g d) (for_parts_and s.counts.parts (view s).patterns (new_held g d) s.for_parts (omega arith))
 
 pub invariant_of-self-clause-among : goal.invariant_of-self-clause-among
 invariant_of-self-clause-among g c =
     let s = c.args.self.now in
-    let d = (goal.at.invariant_of-self-clause-among g c).After-end-self in
+    let d = (goal.at.invariant_of-self-clause-among g c).After-write_rows-2 in
     rw (pushed g d, held_rows g d) (among_and s.counts.held (view s).patterns c.args.part c.state_count.result c.arc_count.result s.among)
 
 pub returns : goal.returns
 returns g c =
     let s = c.args.self.now in
     let m = g.G.Giver.automaton c.args.giver.now in
-    let d = (goal.at.returns g c).After-end-self in
+    let d = (goal.at.returns g c).After-write_rows-2 in
     let states = c.state_count.ensures.counts_states in
     let arcs = c.arc_count.ensures.counts_arcs in
-    let fit = rw (c.end.ensures.ends, end_is g d) at c.if-not-fits.ensures.decides.0 refl in
+    let fit = rw (held_rows g d) at c.if-not-fits.ensures.decides.0 refl in
     let full : Arc g.row.A-Label.Denot = record { from = 0; label = g.A.Alphabet.labels.full; to = 0 } in
     let state : (k : ℕ) → k < c.state_count.result → get_or (part c.write_rows.new.rows s.counts.held.states c.state_count.result) k (plain unmarked) ≡ plain (get_or m.states k unmarked) = λ k low. let w = c.write_rows.ensures.writes k (plain unmarked) low in search rules in
     let arc : (k : ℕ) → k < c.arc_count.result → get_or (part c.write_rows-2.new.rows s.counts.held.arcs c.arc_count.result) k full ≡ get_or m.arcs k full = λ k low. let w = c.write_rows-2.ensures.writes k full low in search rules in
