@@ -1,12 +1,13 @@
 -- When one join more closes a circle.
-use Rattle.std.proofs.Common.{◌≡◌, ℕ, ◌<◌, ◌≤◌, Bool, true, false, cond, not, ◌⊎◌, List, [], ◌∷◌, ◌++◌, length, get_or, set, count_by, sym, refl, ap, ◌∙◌, subst, inl, inr, ⊎_elim, arith}
+use Rattle.std.proofs.Common.{◌≡◌, ℕ, ◌<◌, ◌≤◌, Bool, true, false, cond, not, ◌⊎◌, List, [], ◌∷◌, ◌++◌, length, get_or, set, replicate, count_by, sym, refl, ap, ◌∙◌, subst, inl, inr, ⊎_elim, arith}
 use Rattle.std.specs.List.{ContainsAt as Has}
 use Rattle.std.proofs.lemmas.List.{length-set, get_or-set_same, get_or-set_other}
 use Rattle.std.proofs.lemmas.List.Sums.{sum_by-set}
 use Rattle.std.proofs.lemmas.Bool.{cases_eq, cases_Bool, both_ways}
 use Rattle.std.proofs.ByRecursion.{has_append_left, has_push, has_push_cases}
+use Rattle.giver.proofs.Running.{none_marked}
 use Rattle.sheet.specs.declared.Join.{Join}
-use Rattle.sheet.specs.Joins.{Uses, Below, one, more, Acyclic, AtOrBelow, Closes, Marked, Settled}
+use Rattle.sheet.specs.Joins.{Uses, Below, one, more, Acyclic, Known, AtOrBelow, Closes, Marked, Settled}
 
 pub nothing_below : {x y : ℕ} → Below [] x y → ⊥
 nothing_below (one u) = omega (arith, u.1.1)
@@ -55,6 +56,10 @@ module _ (js : List Join) (j : Join) where
   pub no_circle : Acyclic js → (Closes js j.left j.right j.whole → ⊥) → Acyclic js'
   no_circle ok not p b =
       ⊎_elim (ok p) (λ r. not (⊎_elim (λ l. inl (at_or_then js j.left p j.whole l r.0)) (λ q. inr (at_or_then js j.right p j.whole q r.0)) r.1)) (split b)
+
+  pub known_and : (n : ℕ) → Known n js → j.whole < n → j.left < n → j.right < n → Known n js'
+  known_and n known whole left right i has =
+      ⊎_elim (known i) (λ same. subst (λ i. (i.whole < n) × (i.left < n) × (i.right < n)) same (whole, left, right)) (has_push_cases js j i has)
 
   new_left : Uses js' j.whole j.left
   new_left = (j, has_push js j, refl, inl refl)
@@ -120,3 +125,46 @@ settle_fewer marks j low low' whole not_yet =
 pub closes_more : (js : List Join) (l r x y : ℕ) → Closes js l r x → Uses js x y → Closes js l r y
 closes_more js l r x y (inl h) u = inl (at_or_more js l x y h u)
 closes_more js l r x y (inr h) u = inr (at_or_more js r x y h u)
+
+abbrev pub with_parts : Join → List Bool → List Bool
+with_parts j marks = set (set marks j.left true) j.right true
+
+-- a search from the two parts of j downwards has marked them, and only parts at or below them
+pub record FoundBelow (js : List Join) (j : Join) (marks : List Bool) : Type 0 where
+  pub long : length marks ≡ 64
+  pub left : Marked marks j.left
+  pub right : Marked marks j.right
+  pub only : (p : ℕ) → Marked marks p → Closes js j.left j.right p
+
+module _ (js : List Join) (j : Join) where
+  pub found_first : j.left < 64 → j.right < 64 → FoundBelow js j (with_parts j (replicate 64 false))
+  found_first low low' =
+      let m₀ = replicate 64 false in
+      let m₁ = set m₀ j.left true in record {
+        long = length-set m₁ j.right true ∙ length-set m₀ j.left true;
+        left = mark_keeps m₁ j.right j.left (rw length-set low') (get_or-set_same m₀ j.left true false low);
+        right = get_or-set_same m₁ j.right true false (rw length-set low');
+        only = λ p m. ⊎_elim (λ was. ⊎_elim (λ none'. absurd (both_ways _ (none_marked 64 p) none')) (λ l. inl (inl l)) (mark_cases m₀ j.left p was)) (λ r. inr (inl r)) (mark_cases m₁ j.right p m);
+      }
+
+  pub found_more : (marks : List Bool) (i : Join) → Known 64 js → FoundBelow js j marks → Has js i → Marked marks i.whole → FoundBelow js j (with_parts i marks)
+  found_more marks i known found has whole =
+      let m₁ = set marks i.left true in
+      let parts = known i has in
+      let low : i.left < length marks = omega (arith, parts.1, found.long) in
+      let low' : i.right < length m₁ = omega (arith, parts.2, found.long, length-set marks i.left true) in
+      let from = found.only i.whole whole in record {
+        long = length-set m₁ i.right true ∙ length-set marks i.left true ∙ found.long;
+        left = mark_keeps m₁ i.right j.left low' (mark_keeps marks i.left j.left low found.left);
+        right = mark_keeps m₁ i.right j.right low' (mark_keeps marks i.left j.right low found.right);
+        only = λ p m.
+            ⊎_elim
+            (λ was. ⊎_elim (found.only p) (λ l. closes_more js j.left j.right i.whole p from (i, has, refl, inl l)) (mark_cases marks i.left p was))
+            (λ r. closes_more js j.left j.right i.whole p from (i, has, refl, inr r)) (mark_cases m₁ i.right p m);
+      }
+
+  pub found_all : (marks : List Bool) → FoundBelow js j marks → ((i : Join) → Has js i → Settled marks i) → (x : ℕ) → Closes js j.left j.right x → Marked marks x
+  found_all marks found settled x =
+      ⊎_elim
+      (⊎_elim (λ e. subst (Marked marks) e found.left) (λ b. settled_all js marks settled b found.left))
+      (⊎_elim (λ e. subst (Marked marks) e found.right) (λ b. settled_all js marks settled b found.right))

@@ -1,3 +1,4 @@
 pub mod Circles
+pub mod Finding
 pub mod Holding
 pub mod Invariants

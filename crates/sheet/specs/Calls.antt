@@ -2,7 +2,7 @@
 use Rattle.std.specs.Prelude.{◌≡◌, ℕ, ◌+◌, ◌<◌, List, [], ◌∷◌, ◌++◌, map, length, take, Ok, Err, Result}
 use Rattle.automaton.specs.declared.Arc.{Arc}
 use Rattle.automaton.specs.declared.State.{State}
-use Rattle.automaton.specs.Automaton.{Automaton, Inside}
+use Rattle.automaton.specs.Automaton.{Automaton, Inside, plain}
 use Rattle.build.specs.declared.Rows.{Rows}
 use Rattle.build.specs.Tables.{part, Kept}
 use Rattle.giver.specs.Told.{Small}
@@ -13,7 +13,7 @@ use Rattle.sheet.specs.declared.Refusal.TheVariants.{UnknownPart, Full, TooLarge
 use Rattle.sheet.specs.declared.Sheet.{Sheet}
 use Rattle.sheet.specs.Checks.{Check, check, AllHold, FirstFails}
 use Rattle.sheet.specs.Joins.{Acyclic}
-use Rattle.sheet.specs.Patterns.{Whole, RoomFor, plain}
+use Rattle.sheet.specs.Patterns.{Whole, RoomFor}
 
 -- the parts are the numbers below a count; patterns and joins are in the order in which they were accepted
 pub record View : Type 0 where

@@ -2,7 +2,6 @@
 use Rattle.std.specs.Prelude.{ℕ, ◌+◌, ◌<◌, ◌≤◌, List, length}
 use Rattle.std.specs.List.{ContainsAt as Has}
 use Rattle.automaton.specs.declared.Arc.{Arc}
-use Rattle.automaton.specs.declared.Marks.{Marks}
 use Rattle.automaton.specs.declared.State.{State}
 use Rattle.automaton.specs.Automaton.{Automaton, Inside}
 use Rattle.build.specs.declared.Rows.{Rows}
@@ -27,10 +26,6 @@ pub record Whole {L : Type 0} (hs : List Held) (held : Rows) (states : List Stat
 pub record RoomFor {L : Type 0} (m : Automaton L) (held : Rows) (states : List State) (arcs : List (Arc L)) : Type 0 where
   pub states_fit : held.states + length m.states ≤ state_room states
   pub arcs_fit : held.arcs + length m.arcs ≤ arc_room arcs
-
--- a state row with 0 in both numbers
-abbrev pub plain : Marks → State
-plain s = record { marks = s; left = 0; right = 0 }
 
 abbrev pub nowhere : Held
 nowhere = record { part = 0; place = record { first = record { states = 0; arcs = 0 }; count = record { states = 0; arcs = 0 } } }

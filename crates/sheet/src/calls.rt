@@ -5,22 +5,14 @@ ghost use Rattle.sheet.specs.Calls.{view, number, empty, PartAnswer, PatternAnsw
 ghost use Rattle.sheet.specs.Patterns.{Whole};
 
 use crate::circle::closes;
-use crate::pattern::{copy_arcs, copy_states, fits, whole};
+use crate::pattern::{fits, write_rows};
 use crate::{Counts, Held, Join, MAX_JOINS, MAX_PARTS, MAX_PATTERNS, Refusal, Sheet};
 use alphabet::Alphabet;
 use automaton::{Arc, State};
+use build::operand::stands;
 use build::{Place, Rows};
 use giver::Giver;
 use giver::accepts::check;
-
-const NO_ROWS: Rows = Rows { states: 0, arcs: 0 };
-
-const NOTHING: Counts = Counts {
-    parts: 0,
-    patterns: 0,
-    joins: 0,
-    held: NO_ROWS,
-};
 
 impl Refusal {
     pub fn number(self) -> u32
@@ -39,12 +31,15 @@ impl Refusal {
     }
 }
 
-fn of_giver(e: giver::Refusal) -> Refusal
-    ensures same_number { number result ≡ giver_number e }
-{
-    match e {
-        giver::Refusal::TooLarge => Refusal::TooLarge,
-        giver::Refusal::ArcOutside => Refusal::ArcOutside,
+// A refusal of the automaton of a pattern.
+impl From<giver::Refusal> for Refusal {
+    ghost from_gives = { λ e refusal. number refusal ≡ giver_number e };
+
+    fn from(e: giver::Refusal) -> Refusal {
+        match e {
+            giver::Refusal::TooLarge => Refusal::TooLarge,
+            giver::Refusal::ArcOutside => Refusal::ArcOutside,
+        }
     }
 }
 
@@ -53,22 +48,10 @@ impl Sheet {
     pub fn new() -> Sheet
         ensures holds_nothing { view result ≡ empty }
     {
-        let none = Join {
-            whole: 0,
-            left: 0,
-            right: 0,
-        };
-        let nowhere = Held {
-            part: 0,
-            place: Place {
-                first: NO_ROWS,
-                count: NO_ROWS,
-            },
-        };
         Sheet {
-            counts: NOTHING,
-            patterns: [nowhere; MAX_PATTERNS],
-            joins: [none; MAX_JOINS],
+            counts: Counts::default(),
+            patterns: [Held::default(); MAX_PATTERNS],
+            joins: [Join::default(); MAX_JOINS],
         }
     }
 
@@ -76,12 +59,12 @@ impl Sheet {
     pub fn part(&mut self) -> Result<usize, Refusal>
         ensures answers { PartAnswer (view self.old) (view self.new) result }
     {
-        let n = self.counts.parts;
-        if n >= MAX_PARTS {
+        let part = self.counts.parts;
+        if part >= MAX_PARTS {
             return Err(Refusal::Full);
         }
-        self.counts.parts = n + 1;
-        Ok(n)
+        self.counts.parts += 1;
+        Ok(part)
     }
 
     // Holds a giver's automaton as a pattern of a part, copied behind the held rows.
@@ -97,33 +80,28 @@ impl Sheet {
         if part >= self.counts.parts {
             return Err(Refusal::UnknownPart);
         }
-        let n = self.counts.patterns;
-        if n >= MAX_PATTERNS {
+        if self.counts.patterns >= MAX_PATTERNS {
             return Err(Refusal::Full);
         }
-        if let Err(e) = check(giver) {
-            return Err(of_giver(e));
-        }
-        let held = self.counts.held;
-        if !whole(&self.patterns, n, held, states, arcs) {
+        check(giver)?;
+        if !self.is_whole(states, arcs) {
             return Err(Refusal::RowsLost);
         }
-        if !fits(states, arcs, held, giver) {
-            return Err(Refusal::NoRoom);
-        }
-        copy_states(states, held.states, giver);
-        copy_arcs(arcs, held.arcs, giver);
+        let held = self.counts.held;
         let count = Rows {
             states: giver.state_count(),
             arcs: giver.arc_count(),
         };
         let place = Place { first: held, count };
-        self.patterns[n] = Held { part, place };
-        self.counts.patterns = n + 1;
-        self.counts.held = Rows {
-            states: held.states + count.states,
-            arcs: held.arcs + count.arcs,
-        };
+        let end = place.end();
+        if !fits(states, arcs, end) {
+            return Err(Refusal::NoRoom);
+        }
+        write_rows(states, held.states, count.states, |q| giver.marks(q).into());
+        write_rows(arcs, held.arcs, count.arcs, |k| giver.arc(k));
+        self.patterns[self.counts.patterns] = Held { part, place };
+        self.counts.patterns += 1;
+        self.counts.held = end;
         Ok(())
     }
 
@@ -135,15 +113,14 @@ impl Sheet {
         if join.whole >= parts || join.left >= parts || join.right >= parts {
             return Err(Refusal::UnknownPart);
         }
-        let n = self.counts.joins;
-        if n >= MAX_JOINS {
+        if self.counts.joins >= MAX_JOINS {
             return Err(Refusal::Full);
         }
-        if closes(&self.joins, n, join.left, join.right, join.whole) {
+        if closes(self.joins(), join) {
             return Err(Refusal::Circle);
         }
-        self.joins[n] = join;
-        self.counts.joins = n + 1;
+        self.joins[self.counts.joins] = join;
+        self.counts.joins += 1;
         Ok(())
     }
 
@@ -165,19 +142,19 @@ impl Sheet {
     pub fn is_whole<L: Copy>(&self, states: &[State], arcs: &[Arc<L>]) -> bool
         ensures decides { Decides result (Whole (view self.now).patterns (view self.now).held states.now arcs.now) }
     {
-        whole(
-            &self.patterns,
-            self.counts.patterns,
-            self.counts.held,
-            states,
-            arcs,
-        )
+        let rows = self.counts.held;
+        rows.states <= states.len()
+            && rows.arcs <= arcs.len()
+            && self
+                .patterns()
+                .iter()
+                .all(|held| stands(states, arcs, rows, held.place))
     }
 
     // Lets go of everything.
     pub fn clear(&mut self)
         ensures holds_nothing { view self.new ≡ empty }
     {
-        self.counts = NOTHING;
+        self.counts = Counts::default();
     }
 }

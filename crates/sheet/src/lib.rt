@@ -9,6 +9,7 @@ use build::{Place, Rows};
 
 mod calls;
 mod circle;
+pub mod marking;
 mod pattern;
 
 pub const MAX_PARTS: usize = 64;

@@ -60,13 +60,16 @@ reworded_set parts xs i first len low there =
 pub reworded_more : (parts : ℕ) (xs ys zs : List Row) → Reworded parts xs ys → Reworded parts ys zs → Reworded parts xs zs
 reworded_more parts xs ys zs h k = record { long = k.long ∙ h.long; automata = λ p. k.automata p ∙ h.automata p; rest = k.rest ∙ h.rest }
 
+-- a part of a join is no root
+used_not_root : (js : List Join) (j : Join) → Has js j → (p : ℕ) → UsedBy p j → Root js p → ⊥
+used_not_root js j has p by = not_root js has.0 has.1 p (subst (UsedBy p) (sym (has.2 none)) by)
+
 -- some parts are marked, and have their words
 pub record Placing {L : Type 0} (admits : L → Set) (start : List State) (arcs : List (Arc L)) (js : List Join) (parts : ℕ) (given : List Row) (words : List ℕ) (marks : List Bool) (states : List State) (report : List Row) : Type 0 where
   pub long : length marks ≡ 64
   pub known : (p : ℕ) → Marked marks p → p < parts
   pub worded : (p : ℕ) → Marked marks p → Worded admits start arcs report words p × Within report words p
-  pub pieces : (k : ℕ) → k < length js → Marked marks (get_or js k none).left ⊎ Marked marks (get_or js k none).right →
-      Marked marks (get_or js k none).whole × Marked marks (get_or js k none).left × Marked marks (get_or js k none).right × Pieces report (get_or js k none)
+  pub pieces : (j : Join) → Has js j → Marked marks j.left ⊎ Marked marks j.right → Marked marks j.whole × Marked marks j.left × Marked marks j.right × Pieces report j
   pub roots : (p : ℕ) → p < parts → Root js p → Marked marks p
   pub kept : (p : ℕ) → p < parts → Root js p → row report p ≡ row given p
   pub reworded : Reworded parts given report
@@ -80,7 +83,7 @@ module _ {L : Type 0} (admits : L → Set) (start : List State) (arcs : List (Ar
     long = long;
     known = λ p m. (only p m).0;
     worded = λ p m. worded p (only p m).0 (only p m).1;
-    pieces = λ k low m. absurd (⊎_elim (λ l. not_root js k low _ (inl refl) (only _ l).1) (λ r. not_root js k low _ (inr refl) (only _ r).1) m);
+    pieces = λ j has m. absurd (⊎_elim (λ l. used_not_root js j has _ (inl refl) (only _ l).1) (λ r. used_not_root js j has _ (inr refl) (only _ r).1) m);
     roots = all;
     kept = λ p low root. refl;
     reworded = record { long = refl; automata = λ p. refl; rest = refl };
@@ -115,24 +118,18 @@ module _ {L : Type 0} (admits : L → Set) (start : List State) (arcs : List (Ar
         (subst (λ (a : Automaton L). InTurn admits (automaton_of start arcs given j.left) a w) (sym (automaton_same j.right)) there)
 
     -- where all joins are settled, every part at or below a root is marked
-    module _ (settled : (k : ℕ) → k < length js → Settled marks (get_or js k none)) where
-      settled_has : (j : Join) → Has js j → Settled marks j
-      settled_has j has = subst (Settled marks) (has.2 none) (settled has.0 has.1)
-
+    module _ (settled : (j : Join) → Has js j → Settled marks j) where
       pub all_marked : (p : ℕ) → ((r : ℕ) × (r < parts) × Root js r × AtOrBelow js r p) → Marked marks p
       all_marked p from =
           let m = inv.roots from.0 from.1 from.2 in
-          ⊎_elim (λ same. subst (Marked marks) same m) (λ below. settled_all js marks settled_has below m) from.3
+          ⊎_elim (λ same. subst (Marked marks) same m) (λ below. settled_all js marks settled below m) from.3
 
       pub all_pieces : ((p : ℕ) → p < parts → Marked marks p) → Known parts js → AllPieces js report
-      all_pieces all known j has = subst (Pieces report) (has.2 none) (inv.pieces has.0 has.1 (inl (all _ (known _ (has_get_or js has.0 none has.1)).1))).3
+      all_pieces all known j has = (inv.pieces j has (inl (all j.left (known j has).1))).3
 
     -- the word of one more whole is split up
-    module _ (single : SingleUse js) (all_Known : Known parts js) (few : parts ≤ 64) (rows_there : parts ≤ length report) (k : ℕ) (low : k < length js) (found : Marked marks (get_or js k none).whole)
-        (not_yet : Settled marks (get_or js k none) → ⊥) (states' : List State) (report' : List Row) (up : SplitUp admits states arcs words (get_or js k none) report report') where
-      abbrev j : Join
-      j = get_or js k none
-
+    module _ (single : SingleUse js) (all_Known : Known parts js) (few : parts ≤ 64) (rows_there : parts ≤ length report) (j : Join) (has : Has js j) (found : Marked marks j.whole) (not_yet : Settled marks j → ⊥)
+        (states' : List State) (report' : List Row) (up : SplitUp admits states arcs words j report report') where
       abbrev i : ℕ
       i = up.place
 
@@ -152,13 +149,16 @@ module _ {L : Type 0} (admits : L → Set) (start : List State) (arcs : List (Ar
       m₂ = set m₁ j.right true
 
       ends : (j.whole < parts) × (j.left < parts) × (j.right < parts)
-      ends = all_Known j (has_get_or js k none low)
+      ends = all_Known j has
+
+      differ : j.left ≡ j.right → ⊥
+      differ = subst (λ (i : Join). i.left ≡ i.right → ⊥) (has.2 none) (parts_differ js has.0 has.1 single)
 
       left_open : Marked marks j.left → ⊥
-      left_open m = let h = inv.pieces k low (inl m) in not_yet (λ _. (h.1, h.2))
+      left_open m = let h = inv.pieces j has (inl m) in not_yet (λ _. (h.1, h.2))
 
       right_open : Marked marks j.right → ⊥
-      right_open m = let h = inv.pieces k low (inr m) in not_yet (λ _. (h.1, h.2))
+      right_open m = let h = inv.pieces j has (inr m) in not_yet (λ _. (h.1, h.2))
 
       low₁ : j.left < length marks
       low₁ = omega (arith, ends.1, inv.long)
@@ -185,10 +185,10 @@ module _ {L : Type 0} (admits : L → Set) (start : List State) (arcs : List (Ar
       row_marked p m = row_other p (λ e. left_open (subst (Marked marks) e m)) (λ e. right_open (subst (Marked marks) e m))
 
       row_left : row after j.left ≡ with_word (row report j.left) whole.first i
-      row_left = get_or-set_other mid j.right j.left _ blank (parts_differ js k low single) ∙ get_or-set_same report j.left _ blank (omega (arith, ends.1, rows_there))
+      row_left = get_or-set_other mid j.right j.left _ blank differ ∙ get_or-set_same report j.left _ blank (omega (arith, ends.1, rows_there))
 
       mid_right : row mid j.right ≡ row report j.right
-      mid_right = get_or-set_other report j.left j.right _ blank (λ e. parts_differ js k low single (sym e))
+      mid_right = get_or-set_other report j.left j.right _ blank (λ e. differ (sym e))
 
       row_right : row after j.right ≡ with_word (row report j.right) (whole.first + i) (whole.len - i)
       row_right =
@@ -236,24 +236,27 @@ module _ {L : Type 0} (admits : L → Set) (start : List State) (arcs : List (Ar
             together = omega (arith, ap len as-was, ap len row_left, ap len row_right, up.within);
           }
 
-      abbrev Split : ℕ → Type 0
-      Split n = Marked m₂ (get_or js n none).whole × Marked m₂ (get_or js n none).left × Marked m₂ (get_or js n none).right × Pieces after (get_or js n none)
+      abbrev Split : Join → Type 0
+      Split o = Marked m₂ o.whole × Marked m₂ o.left × Marked m₂ o.right × Pieces after o
 
-      split_other : (n : ℕ) → n < length js → (n ≡ k → ⊥) → Marked m₂ (get_or js n none).left ⊎ Marked m₂ (get_or js n none).right → Split n
-      split_other n low' other m =
-          let o = get_or js n none in
+      split_other : (o : Join) (has' : Has js o) → (has'.0 ≡ has.0 → ⊥) → Marked m₂ o.left ⊎ Marked m₂ o.right → Split o
+      split_other o has' other m =
+          let no_by : (p : ℕ) → UsedBy p j → UsedBy p o → ⊥ = λ p by by'. no_other js has.0 has.1 single has'.0 has'.1 other p (subst (UsedBy p) (sym (has.2 none)) by) (subst (UsedBy p) (sym (has'.2 none)) by') in
           let was : Marked marks o.left ⊎ Marked marks o.right =
           ⊎_elim
-          (λ l. inl (⊎_elim (λ old. old) (λ by. absurd (no_other js k low single n low' other o.left by (inl refl))) (cases o.left l)))
-          (λ r. inr (⊎_elim (λ old. old) (λ by. absurd (no_other js k low single n low' other o.right by (inr refl))) (cases o.right r))) m in
-          let h = inv.pieces n low' was in
+          (λ l. inl (⊎_elim (λ old. old) (λ by. absurd (no_by o.left by (inl refl))) (cases o.left l)))
+          (λ r. inr (⊎_elim (λ old. old) (λ by. absurd (no_by o.right by (inr refl))) (cases o.right r))) m in
+          let h = inv.pieces o has' was in
           (keeps o.whole h.0, keeps o.left h.1, keeps o.right h.2, pieces_kept report after o (row_marked o.whole h.0) (row_marked o.left h.1) (row_marked o.right h.2) h.3)
 
-      split_all : (n : ℕ) → n < length js → Marked m₂ (get_or js n none).left ⊎ Marked m₂ (get_or js n none).right → Split n
-      split_all n low' m = ⊎_elim (λ same. subst Split (sym same) (keeps j.whole found, left_marked, right_marked, pieces_here)) (λ other. split_other n low' other m) (cases_eq n k)
+      split_all : (o : Join) → Has js o → Marked m₂ o.left ⊎ Marked m₂ o.right → Split o
+      split_all o has' m =
+          ⊎_elim
+          (λ same. subst Split (sym (has.2 none) ∙ ap (λ n. get_or js n none) (sym same) ∙ has'.2 none) (keeps j.whole found, left_marked, right_marked, pieces_here))
+          (λ other. split_other o has' other m) (cases_eq has'.0 has.0)
 
       root_kept : (p : ℕ) → p < parts → Root js p → row after p ≡ row given p
-      root_kept p low' root = row_other p (λ e. not_root js k low p (inl (sym e)) root) (λ e. not_root js k low p (inr (sym e)) root) ∙ inv.kept p low' root
+      root_kept p low' root = row_other p (λ e. used_not_root js j has p (inl (sym e)) root) (λ e. used_not_root js j has p (inr (sym e)) root) ∙ inv.kept p low' root
 
       reworded_after : Reworded parts given after
       reworded_after =

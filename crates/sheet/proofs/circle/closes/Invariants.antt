@@ -1,9 +1,9 @@
-use Rattle.std.proofs.Common.{◌≡◌, ℕ, not, length, take, count_by}
-use Rattle.sheet.specs.Joins.{Closes, Marked}
+use Rattle.std.proofs.Common.{not, count_by}
+use Rattle.sheet.proofs.Circles.{FoundBelow}
 use Rattle.sheet.proofs.circle.closes.Given as goal
 
-abbrev pub invariant-loop-k : goal.invariant-loop-k
-invariant-loop-k l = (length l.marks ≡ 64) × Marked l.marks l.left × Marked l.marks l.right × ((p : ℕ) → Marked l.marks p → Closes (take l.n l.joins) l.left l.right p)
+abbrev pub invariant-loop-next : goal.invariant-loop-next
+invariant-loop-next l = FoundBelow l.joins l.join l.below
 
-abbrev pub decreases-loop-k : goal.decreases-loop-k
-decreases-loop-k l = count_by not l.marks
+abbrev pub decreases-loop-next : goal.decreases-loop-next
+decreases-loop-next l = count_by not l.below

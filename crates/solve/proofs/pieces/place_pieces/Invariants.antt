@@ -2,8 +2,8 @@ use Rattle.std.proofs.Common.{not, count_by}
 use Rattle.solve.proofs.Placing.{Placing}
 use Rattle.solve.proofs.pieces.place_pieces.Given as goal
 
-abbrev pub invariant-loop-k : goal.invariant-loop-k
-invariant-loop-k g l = Placing g.A.Alphabet.labels.admits l.initial.states l.arcs l.joins l.parts l.initial.report l.words l.placed l.states l.report
+abbrev pub invariant-loop-join : goal.invariant-loop-join
+invariant-loop-join g l = Placing g.A.Alphabet.labels.admits l.initial.states l.arcs l.joins l.parts l.initial.report l.words l.placed l.states l.report
 
-abbrev pub decreases-loop-k : goal.decreases-loop-k
-decreases-loop-k g l = count_by not l.placed
+abbrev pub decreases-loop-join : goal.decreases-loop-join
+decreases-loop-join g l = count_by not l.placed
