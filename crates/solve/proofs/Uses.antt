@@ -1,6 +1,9 @@
 -- Uses of parts, and what is asked for the roots below a part.
-use Rattle.std.proofs.Common.{◌≡◌, ℕ, zero, suc, ◌+◌, ◌<◌, ◌≤◌, cond, eqb, ◌⊎◌, List, ap, ◌∙◌, subst, ⊎_elim, add-one, arith}
-use Rattle.std.proofs.lemmas.Bool.{cases_eq, cases_lt, cond-true, cond-false, eq-eqb, ne_eqb}
+use Rattle.std.proofs.Common.{◌≡◌, ℕ, zero, suc, ◌+◌, ◌<◌, ◌≤◌, Bool, true, false, cond, eqb, ◌⊎◌, List, length, Decides, refl, ap, ◌∙◌, subst, ⊎_elim, add-one, zero-add, arith}
+use Rattle.std.specs.Bool.{MatchBool}
+use Rattle.std.specs.List.{AllWithin, HoldsAt, range_with_len}
+use Rattle.std.proofs.lemmas.List.FromFn.{length-range_with_len, get_or-range_with_len}
+use Rattle.std.proofs.lemmas.Bool.{both_ways, cases_eq, cases_lt, cond-true, cond-false, eq-eqb, ne_eqb}
 use Rattle.sheet.specs.declared.Join.{Join}
 use Rattle.sheet.specs.Joins.{Known, Uses}
 use Rattle.verdict.specs.Verdicts.{uses, SingleUse, Root, roots_below}
@@ -13,6 +16,14 @@ unknown_root js n known p high =
 
 pub single_use : (js : List Join) (n : ℕ) → Known n js → ((p : ℕ) → p < n → uses js p ≤ 1) → SingleUse js
 single_use js n known single p = ⊎_elim (λ low. single p low) (λ high. omega (arith, unknown_root js n known p high)) (cases_lt p n)
+
+-- no part is used twice exactly if none of the first n is
+pub cases_single : (js : List Join) (n : ℕ) → Known n js → (r : Bool) →
+    MatchBool r (AllWithin (λ p. uses js p ≤ 1) (range_with_len 0 n) 0 (length (range_with_len 0 n))) ((k : ℕ) × (k < length (range_with_len 0 n)) × HoldsAt (λ p. uses js p ≤ 1 → ⊥) (range_with_len 0 n) k) →
+    Decides r (SingleUse js)
+cases_single js n known true all =
+    (λ _. single_use js n known (λ p low. subst (λ q. uses js q ≤ 1) (get_or-range_with_len 0 n p 0 low ∙ zero-add p) (all p 0 (omega arith) (omega (arith, low, length-range_with_len 0 n)))), λ _. refl)
+cases_single js n known false (k, low, twice) = (λ e. absurd (both_ways false refl e), λ single. absurd (twice 0 (single _)))
 
 module _ (js : List Join) where
   pub cases_use : (p : ℕ) → Root js p ⊎ (Root js p → ⊥)

@@ -1,11 +1,14 @@
 -- How often a part stands on right-hand sides, by the places of the joins.
-use Rattle.std.proofs.Common.{◌≡◌, ℕ, suc, ◌<◌, ◌≤◌, cond, eqb, ◌⊎◌, List, length, get_or, set, refl, ap, inl, inr, arith}
+use Rattle.std.proofs.Common.{◌≡◌, ℕ, suc, ◌<◌, ◌≤◌, Bool, true, false, cond, eqb, ◌⊎◌, List, length, get_or, set, Decides, sym, refl, ap, subst, inl, inr, ⊎_elim, arith}
+use Rattle.std.specs.Bool.{MatchBool}
+use Rattle.std.specs.List.{AllWithin, HoldsAt}
 use Rattle.std.proofs.lemmas.List.{length-set, get_or-set_other}
 use Rattle.std.proofs.lemmas.List.Sums.{sum_by-set, get_or-le-sum_by}
-use Rattle.std.proofs.lemmas.Bool.{eq-eqb, ne_eqb}
+use Rattle.std.proofs.lemmas.Bool.{both_ways, eq-eqb, ne_eqb}
 use Rattle.sheet.specs.declared.Join.{Join}
 use Rattle.sheet.specs.Joins.{none}
 use Rattle.verdict.specs.Verdicts.{uses_in, SingleUse, Root}
+use Rattle.verdict.proofs.Chains.{cases_root}
 
 -- the part is the left or the right
 abbrev pub UsedBy : ℕ → Join → Type 0
@@ -56,3 +59,9 @@ module _ (js : List Join) (k : ℕ) (low : k < length js) where
         used_never p unused (λ e. omega arith) (λ e. omega arith),
         single p,
       )
+
+-- a part is a root exactly if no join has it on its right-hand side
+pub cases_used : (js : List Join) (p : ℕ) (r : Bool) → MatchBool r (AllWithin (λ j. UsedBy p j → ⊥) js 0 (length js)) ((k : ℕ) × (k < length js) × HoldsAt (UsedBy p) js k) → Decides r (Root js p)
+cases_used js p true unused =
+    (λ _. ⊎_elim (λ root. root) (λ u. let has = u.1.1 in absurd (unused has.0 none (omega arith) has.1 (subst (UsedBy p) (sym (has.2 none)) u.1.3))) (cases_root js p), λ _. refl)
+cases_used js p false (k, low, used) = (λ e. absurd (both_ways false refl e), λ root. absurd (not_root js k low p (used none) root))

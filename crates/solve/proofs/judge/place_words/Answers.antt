@@ -9,32 +9,27 @@ use Rattle.solve.proofs.Placing.{reworded_more}
 use Rattle.solve.proofs.Uses.{roots_before}
 use Rattle.solve.proofs.judge.place_words.Goals as goal
 
-pub place_roots-requires : goal.place_roots-requires
-place_roots-requires g c = record { standing = (c.requires.standing.0, c.requires.standing.1.0.few_joins); by_index = c.requires.sound.worded; parts_in_bounds = c.requires.parts_in_bounds }
-
 pub place_pieces-requires : goal.place_pieces-requires
 place_pieces-requires g c =
     let admits = g.A.Alphabet.labels.admits in
     let s = c.args.states.now in
     let e = c.args.arcs.now in
-    let js = c.args.joins.now in
-    let parts = c.args.parts in
-    let r = c.args.report.now in
+    let plan = c.args.plan.now in
+    let js = plan.joins.now in
     let s' = c.place_roots.new.states in
     let r' = c.place_roots.new.report in
     let ws = c.place_roots.new.words in
     let roots = c.place_roots.ensures in
-    let joined = c.requires.standing.1.0 in
     let again = roots.renumbers 0 (λ p low. omega arith) in
-    let sound = sound_still s s' e r r' roots.rewords.automata again admits parts js c.requires.sound in record {
-      standing = (standing_still s s' e r r' roots.rewords.automata again c.args.used parts roots.rewords.long c.requires.standing.0, (joined.few_parts, joined.few_joins));
-      single_use = (c.requires.standing.1.1, joined.known);
-      in_turn = sound.splits;
+    record {
+      standing = (standing_still roots.rewords again c.requires.standing, (plan.few_parts, plan.few_joins));
+      single_use = (c.requires.single_use, plan.known);
+      in_turn = (sound_still roots.rewords again c.requires.sound).splits;
       by_index = (λ p low root. (
         subst (λ m. Accepts admits m (word_at ws (row r' p).word)) (sym (at_renumbered 0 s s' e again (row r' p).automaton)) (roots.accepts p low root),
-        omega (arith, roots.lays.first p low root, roots_before js (word_len r') p parts low root, roots.lays.within, roots.lays.long),
+        omega (arith, roots.lays.first p low root, roots_before js (word_len r') p plan.parts low root, roots.lays.within, roots.lays.long),
       ));
-      by_index_2 = rooted js parts joined.acyclic joined.known;
+      by_index_2 = rooted js plan.parts plan.acyclic plan.known;
     }
 
 pub returns : goal.returns
@@ -42,7 +37,7 @@ returns g c =
     let admits = g.A.Alphabet.labels.admits in
     let s = c.args.states.now in
     let e = c.args.arcs.now in
-    let parts = c.args.parts in
+    let parts = c.args.plan.now.parts in
     let r = c.args.report.now in
     let s' = c.place_roots.new.states in
     let r' = c.place_roots.new.report in
@@ -55,7 +50,7 @@ returns g c =
       places = record {
         renumbered = λ n low. renumbered_more n s s' s'' (roots.renumbers n low) (pieces.renumbers n (λ p lt. omega (arith, low p lt, ap (λ (x : Place). x.first.states) (roots.rewords.automata p))));
         reworded = reworded_more parts r r' r'' roots.rewords pieces.rewords;
-        roots = laid_still c.args.joins.now parts r' r'' c.args.words.now c.place_roots.new.words pieces.keeps_roots roots.lays;
+        roots = laid_still r'' pieces.keeps_roots roots.lays;
         pieces = pieces.pieces;
         accepts = λ p low. subst (λ m. Accepts admits m (word_at c.place_roots.new.words (row r'' p).word)) (at_renumbered 0 s s' e again (row r'' p).automaton) (pieces.accepts p low);
       };
