@@ -1,7 +1,7 @@
 -- Laying the words of the roots one behind another.
-use Rattle.std.proofs.Common.{◌≡◌, ℕ, ◌+◌, ◌-◌, ◌<◌, ◌≤◌, List, length, drop, set, sym, ap, ◌∙◌, subst, ⊎_elim, arith}
-use Rattle.std.proofs.lemmas.List.{length-set, get_or-set_same, get_or-set_other}
-use Rattle.std.proofs.lemmas.Bool.{cases_eq}
+use Rattle.std.proofs.Common.{◌≡◌, ℕ, ◌+◌, ◌-◌, ◌<◌, ◌≤◌, List, length, drop, set, sym, ap, ◌∙◌, subst, arith}
+use Rattle.std.proofs.lemmas.List.{get_or-set_same, get_or-set_other}
+use borrow.Author.Count.{below_more}
 use Rattle.alphabet.specs.Labels.{Set}
 use Rattle.automaton.specs.declared.Arc.{Arc}
 use Rattle.automaton.specs.declared.State.{State}
@@ -17,7 +17,8 @@ use Rattle.words.proofs.Renumbering.{renumbered_more, renumbered_less, at_renumb
 use Rattle.solve.specs.declared.Row.{Row}
 use Rattle.solve.specs.Report.{blank, row, word_len, word_at, automaton_of, Standing, Reworded, RootsLaid, Worded, with_word}
 use Rattle.solve.specs.Roots.{Found}
-use Rattle.solve.proofs.Rows.{drop_same_later, drop_set_more}
+use Rattle.solve.proofs.Placing.{reworded_set, reworded_more}
+use Rattle.solve.proofs.Rows.{drop_same_later, reworded_later}
 use Rattle.solve.proofs.Uses.{roots_root, roots_other, roots_same, roots_less, roots_before}
 
 -- the words of the roots below p are laid, and end where the next begins
@@ -74,11 +75,10 @@ module _ {L : Type 0} {admits : L → Set} {js : List Join} {parts : ℕ} {arcs 
   pub laying_other : (Root js p → ⊥) → Laying admits js parts arcs (p + 1) states₀ states report₀ report words₀ words end
   laying_other other =
       let same = roots_other js (word_len report) p other in
-      let before : (q : ℕ) → q < p + 1 → Root js q → q < p =
-      λ q low root. ⊎_elim (λ (is : q ≡ p). absurd (other (subst (Root js) is root))) (λ (not : q ≡ p → ⊥). let less : q < p = omega (arith, not) in less) (cases_eq q p) in
+      let before = below_more (λ q. Root js q → q < p) p (λ q low _. low) (λ root. absurd (other root)) in
       record {
         renumbered = h.renumbered;
-        reworded = record { long = h.reworded.long; automata = h.reworded.automata; rest = drop_same_later report report₀ p (p + 1) (omega arith) h.reworded.rest };
+        reworded = reworded_later h.reworded;
         laid = record {
           first = λ q low root. h.laid.first q (before q low root) root;
           short = λ q low root. h.laid.short q (before q low root) root;
@@ -114,12 +114,7 @@ module _ {L : Type 0} {admits : L → Set} {js : List Join} {parts : ℕ} {arcs 
 
     -- what holds of the parts below, and of the part
     upto : (P : ℕ → Type 0) → ((q : ℕ) → q < p → Root js q → P q) → P p → (q : ℕ) → q < p + 1 → Root js q → P q
-    upto P below this q less is = ⊎_elim (λ (same : q ≡ p). subst P (sym same) this) (λ (other : q ≡ p → ⊥). below q (omega (arith, other)) is) (cases_eq q p)
-
-    automata : (q : ℕ) → (row report' q).automaton ≡ (row report q).automaton
-    automata q = ⊎_elim
-        (λ (same : q ≡ p). subst (λ (r : ℕ). (row report' r).automaton ≡ (row report r).automaton) (sym same) (ap (λ (x : Row). x.automaton) here))
-        (λ (other : q ≡ p → ⊥). ap (λ (x : Row). x.automaton) (elsewhere q other)) (cases_eq q p)
+    upto P below this = below_more (λ q. Root js q → P q) p below (λ _. this)
 
     -- the words before are kept
     accepts_before : (q : ℕ) → q < p → Root js q → Worded admits states₀ arcs report' words' q
@@ -141,11 +136,7 @@ module _ {L : Type 0} {admits : L → Set} {js : List Join} {parts : ℕ} {arcs 
               let first = (row report p).automaton.first.states in
               let under : m ≤ first = omega (arith, low-all p low, ap (λ (a : Place). a.first.states) (h.reworded.automata p)) in
               renumbered_more m states₀ states states' (h.renumbered m low-all) (renumbered_less first m states states' under renumbers);
-          reworded = record {
-            long = length-set report p row' ∙ h.reworded.long;
-            automata = λ q. automata q ∙ h.reworded.automata q;
-            rest = drop_set_more report report₀ p row' h.reworded.rest;
-          };
+          reworded = reworded_more (p + 1) report₀ report report' (reworded_later h.reworded) (reworded_set (p + 1) report p end n (omega arith) there);
           laid = record {
             first = upto (λ q. (row report' q).word.first ≡ roots_below js (word_len report') q)
                 (λ q less is. ap (λ (x : Row). x.word.first) (elsewhere q (λ same. omega arith)) ∙ h.laid.first q less is ∙ sym (before q (omega arith)))
