@@ -1,9 +1,9 @@
 -- Uses of parts, and what is asked for the roots below a part.
-use Rattle.std.proofs.Common.{◌≡◌, ℕ, zero, suc, ◌+◌, ◌<◌, ◌≤◌, Bool, true, false, List, length, Decides, refl, ap, ◌∙◌, subst, ⊎_elim, add-one, zero-add, arith}
+use Rattle.std.proofs.Common.{◌≡◌, ℕ, zero, suc, ◌+◌, ◌<◌, ◌≤◌, Bool, true, false, List, length, Decides, refl, ◌∙◌, subst, ⊎_elim, add-one, zero-add, arith}
 use Rattle.std.specs.Bool.{MatchBool}
 use Rattle.std.specs.List.{AllWithin, HoldsAt, range_with_len}
 use Rattle.std.proofs.lemmas.List.FromFn.{length-range_with_len, get_or-range_with_len}
-use Rattle.std.proofs.lemmas.Bool.{both_ways, cases_eq, cases_lt}
+use Rattle.std.proofs.lemmas.Bool.{both_ways, cases_lt}
 use Rattle.std.proofs.lemmas.Bool.Decides.{nat_tests}
 use Rattle.sheet.specs.declared.Join.{Join}
 use Rattle.sheet.specs.Joins.{Known, Uses}
@@ -37,7 +37,8 @@ module _ (js : List Join) where
   roots_less f g zero less = omega arith
   roots_less f g (suc p) less =
       let before = roots_less f g p (λ q low. less q (omega arith)) in
-      ⊎_elim (λ root. omega (arith, roots_root f p root, roots_root g p root, ap (roots_below js f) (add-one p), ap (roots_below js g) (add-one p), less p (omega arith) root)) (λ other. omega (arith, roots_other f p other, roots_other g p other, ap (roots_below js f) (add-one p), ap (roots_below js g) (add-one p))) (cases_eq (uses js p) 0)
+      let here : Root js p → f p ≤ g p = less p (omega arith) in
+      grind (arith, nat_tests)
 
   pub roots_same : (f g : ℕ → ℕ) (p : ℕ) → ((q : ℕ) → q < p → f q ≡ g q) → roots_below js f p ≡ roots_below js g p
   roots_same f g p same = omega (arith, roots_less f g p (λ q low _. omega (arith, same q low)), roots_less g f p (λ q low _. omega (arith, same q low)))

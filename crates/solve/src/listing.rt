@@ -7,6 +7,7 @@ use crate::{Row, Span};
 use sheet::Held;
 
 // Writes a row for each part, without a word.
+#[tactic(auto, using(crate::proofs::Rows::listed_more))]
 pub fn list_parts(report: &mut [Row], finished: &[Held], parts: usize)
     requires { parts ≤ length report.old }
     ensures lists { Listed finished.now parts report.old report.new }

@@ -9,7 +9,6 @@ use build::Place;
 use sheet::{Held, Join};
 
 // The place of the final result of a part, if it is finished.
-#[tactic(auto, using(crate::proofs::Finds::find_is))]
 pub fn find(finished: &[Held], part: usize) -> Option<Held>
     ensures finds { result ≡ find_part (λ h. h.part) finished.now part }
 {

@@ -11,6 +11,3 @@ place_words-requires g c =
       sound = listed_sound lists c.requires.ready c.requires.joined.known;
       has_room = listed_bounds lists c.args.joins.now _ c.in_default.ensures.finds;
     }
-
-pub returns : goal.returns
-returns g c = record { judges = (c.if-not-is_single_use.ensures.decides.0 refl, c.in_default.ensures.finds, record { listed = c.list_parts-2.new.report; lists = c.list_parts-2.ensures.lists; placed = c.place_words.ensures.places }) }
