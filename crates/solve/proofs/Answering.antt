@@ -1,9 +1,9 @@
 -- What each way out of solving promises.
-use Rattle.std.proofs.Common.{◌≡◌, ℕ, ◌+◌, ◌-◌, ◌<◌, ◌≤◌, true, ◌↔◌, List, ◌++◌, map, length, get_or, take, drop, is_some, Some, None, Option, Ok, Err, Result, sym, refl, ap, ◌∙◌, subst, inl, inr, arith}
+use Rattle.std.proofs.Common.{◌≡◌, ℕ, ◌+◌, ◌-◌, ◌<◌, ◌≤◌, ◌↔◌, List, ◌++◌, map, length, get_or, take, drop, Ok, Err, Result, sym, refl, ap, ◌∙◌, subst, inl, inr, arith}
 use Rattle.std.specs.List.{ContainsAt as Has}
 use Rattle.std.proofs.ByRecursion.{has_get_or}
-use Rattle.std.proofs.lemmas.List.{length-map, get_or-map, take-take, drop-take, drop-drop, take-append-drop}
-use Rattle.std.proofs.lemmas.Bool.{false≢true}
+use Rattle.std.proofs.lemmas.List.{length-map, get_or-map, drop-drop}
+use Rattle.std.proofs.Math.Seq.{take-add}
 use Rattle.alphabet.specs.Labels.{Labels, Lawful}
 use Rattle.automaton.specs.declared.Arc.{Arc}
 use Rattle.automaton.specs.declared.State.{State}
@@ -24,12 +24,11 @@ use Rattle.verdict.specs.declared.Solved.{Solved}
 use Rattle.verdict.specs.declared.Table.TheVariants.{States, Arcs, Words}
 use Rattle.verdict.specs.declared.Verdict.{Verdict}
 use Rattle.verdict.specs.declared.Verdict.TheVariants.{OutOfRoom, Impossible, Unknown, Possible}
-use Rattle.verdict.specs.Course.{Done, find, result_of, complete}
+use Rattle.verdict.specs.Course.{Done, result_of, complete}
 use Rattle.verdict.specs.Meaning.{CoursesExact, Unsatisfiable}
 use Rattle.verdict.specs.Problem.{Problem, Pattern, Satisfies, read, problem}
 use Rattle.verdict.specs.Verdicts.{SingleUse, roots_below, bound, bounds_below, totals, Given}
 use Rattle.verdict.proofs.Exactness.{courses_exact, no_word_none, complete_all}
-use Rattle.verdict.proofs.Finding.{find_has}
 use Rattle.verdict.proofs.Living.{courses_worded}
 use Rattle.verdict.proofs.Unique.{given_unique}
 use Rattle.words.specs.Words.{Renumbered}
@@ -41,12 +40,13 @@ use Rattle.solve.specs.Builds.{room}
 use Rattle.solve.specs.Finishing.{Completed, Stopped}
 use Rattle.solve.specs.Judging.{Ready, Filled, Judges}
 use Rattle.solve.specs.Parts.{dones}
-use Rattle.solve.specs.Report.{row, place_or, place_of, word_at, automaton_of}
+use Rattle.solve.specs.Report.{row, place_of, word_at, automaton_of}
 use Rattle.solve.specs.Roots.{bound_in}
 use Rattle.solve.specs.Solving.{solve_checks, SolveAnswer, OnlyAnswer, Told, LeavesAll, Reported, WhenPossible, WhenUnknown, WhenImpossible, Leaves, Reports, RowAllows, ReportsExactly, placed, Lays, NoWords, Decided, stop_verdict, used_of}
 use Rattle.solve.proofs.Coursing.{among_finished}
+use Rattle.solve.proofs.Finds.{found_place}
 use Rattle.solve.proofs.Going.{states_at}
-use Rattle.solve.proofs.Judged.{in_turn_same, listed_place}
+use Rattle.solve.proofs.Judged.{in_turn_same, worded_renumbered, listed_place}
 use Rattle.solve.proofs.Operands.{result_at, stands_found}
 use Rattle.solve.proofs.Uses.{roots_same}
 
@@ -72,11 +72,7 @@ held_read states arcs hs P all x has =
 
 -- a word in two pieces
 pub word_pieces : (words : List ℕ) (f m n : ℕ) → part words f (m + n) ≡ part words f m ++ part words (f + m) n
-word_pieces words f m n =
-    let xs = drop f words in
-    let front = take-take m (m + n) xs (omega arith) in
-    let back = drop-take m n xs ∙ ap (take n) (drop-drop m f words) in
-    sym (take-append-drop m (take (m + n) xs)) ∙ (λ i. front i ++ back i)
+word_pieces words f m n = take-add m n (drop f words) ∙ ap (λ l. part words f m ++ take n l) (drop-drop m f words)
 
 -- the builds ended early
 module _ {L : Type 0} (a : Labels L) (laws : Lawful a) (v : View) (states : List State) (arcs : List (Arc L)) (states' : List State) (arcs' : List (Arc L)) (report : List Row) (words : List ℕ) where
@@ -136,11 +132,7 @@ module _ {L : Type 0} (a : Labels L) (laws : Lawful a) (v : View) (known : Known
   stands_of p low = stands_found states arcs hs p used h.built.stand (h.all p low)
 
   behind_of : (p : ℕ) → p < v.parts → v.held.states ≤ (place_of hs p).first.states
-  behind_of p low = by (find (λ h. h.part) hs p) refl (h.all p low)
-    where
-      by : (o : Option Held) → find (λ h. h.part) hs p ≡ o → is_some o ≡ true → v.held.states ≤ (place_or o).first.states
-      by None e some = absurd (false≢true some)
-      by (Some x) e some = h.built.behind x (find_has (λ h. h.part) hs p x e).0
+  behind_of p low = found_place hs p (λ place. v.held.states ≤ place.first.states) h.built.behind (h.all p low)
 
   -- what the judge needs to know
   pub ready : Ready a.admits states arcs used v.parts v.joins hs
@@ -191,7 +183,7 @@ module _ {L : Type 0} (a : Labels L) (laws : Lawful a) (v : View) (known : Known
       filled_exactly = exactly_reported a laws v known states₀ arcs₀ states' arcs report' filled_reports
 
       allowed : (p : ℕ) → p < v.parts → RowAllows a s states' arcs report' p (placed report' words' p)
-      allowed p low = (filled_exactly p low (placed report' words' p)).0 (subst (λ m. Accepts a.admits m (placed report' words' p)) (sym (at_renumbered 0 states states' arcs again (row report' p).automaton)) (f.placed.accepts p low))
+      allowed p low = (filled_exactly p low (placed report' words' p)).0 ((worded_renumbered a.admits arcs report' words' p again).1 (f.placed.accepts p low))
 
       filled_satisfies : Satisfies a s (placed report' words')
       filled_satisfies = record {

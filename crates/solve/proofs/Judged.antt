@@ -1,5 +1,5 @@
 -- Reports whose words change, over rows whose numbers change.
-use Rattle.std.proofs.Common.{◌≡◌, ℕ, ◌-◌, ◌<◌, ◌≤◌, List, length, drop, sym, ap, ◌∙◌, subst, arith}
+use Rattle.std.proofs.Common.{◌≡◌, ℕ, ◌-◌, ◌<◌, ◌≤◌, ◌↔◌, List, length, drop, sym, ap, ◌∙◌, subst, arith}
 use Rattle.alphabet.specs.Labels.{Set}
 use Rattle.automaton.specs.declared.Arc.{Arc}
 use Rattle.automaton.specs.declared.State.{State}
@@ -15,7 +15,7 @@ use Rattle.words.specs.Words.{Renumbered}
 use Rattle.words.proofs.Renumbering.{at_renumbered, in_use_renumbered, stands_renumbered}
 use Rattle.solve.specs.declared.Row.{Row}
 use Rattle.solve.specs.Judging.{Sound, Ready}
-use Rattle.solve.specs.Report.{row, place_of, word_len, automaton_of, Listed, Reworded, Standing, RootsLaid}
+use Rattle.solve.specs.Report.{row, place_of, word_at, word_len, automaton_of, Listed, Reworded, Standing, RootsLaid, Worded}
 use Rattle.solve.specs.Roots.{bound_in}
 use Rattle.solve.proofs.Uses.{roots_less, roots_same}
 
@@ -23,22 +23,29 @@ use Rattle.solve.proofs.Uses.{roots_less, roots_same}
 pub in_turn_same : {L : Type 0} {admits : L → Set} {m m' n n' : Automaton L} (w : Word) → m' ≡ m → n' ≡ n → InTurn admits m n w → InTurn admits m' n' w
 in_turn_same {admits = admits} w left right (u, v, is, first, second) = (u, v, is, subst (λ m. Accepts admits m u) (sym left) first, subst (λ m. Accepts admits m v) (sym right) second)
 
-module _ {L : Type 0} {states states' : List State} {parts : ℕ} {report report' : List Row} (reworded : Reworded parts report report') (h : Renumbered 0 states states') where
-  automaton_still : (arcs : List (Arc L)) (p : ℕ) → automaton_of states' arcs report' p ≡ automaton_of states arcs report p
+module _ {L : Type 0} {states states' : List State} {n : ℕ} {report report' : List Row} (reworded : Reworded n report report') (h : Renumbered 0 states states') where
+  pub automaton_still : (arcs : List (Arc L)) (p : ℕ) → automaton_of states' arcs report' p ≡ automaton_of states arcs report p
   automaton_still arcs p = at_renumbered 0 states states' arcs h (row report' p).automaton ∙ ap (at states arcs) (reworded.automata p)
 
-  pub standing_still : {arcs : List (Arc L)} {used : Rows} → Standing states arcs used parts report → Standing states' arcs used parts report'
+  pub standing_still : {arcs : List (Arc L)} {used : Rows} {parts : ℕ} → Standing states arcs used parts report → Standing states' arcs used parts report'
   standing_still {arcs} {used} s = record {
     in_use = in_use_renumbered 0 states states' arcs h used s.in_use;
     rows_there = omega (arith, s.rows_there, reworded.long);
     stands = λ p low. stands_renumbered 0 states states' arcs h used (row report' p).automaton (subst (Stands states arcs used) (sym (reworded.automata p)) (s.stands p low));
   }
 
-  pub sound_still : {admits : L → Set} {arcs : List (Arc L)} {js : List Join} → Sound admits states arcs parts js report → Sound admits states' arcs parts js report'
+  pub sound_still : {admits : L → Set} {arcs : List (Arc L)} {parts : ℕ} {js : List Join} → Sound admits states arcs parts js report → Sound admits states' arcs parts js report'
   sound_still {admits} {arcs} s = record {
     worded = λ p low. let w = s.worded p low in (w.0, subst (λ m. Accepts admits m w.0) (sym (automaton_still arcs p)) w.1);
     splits = λ j has w accepts. in_turn_same w (automaton_still arcs j.left) (automaton_still arcs j.right) (s.splits j has w (subst (λ m. Accepts admits m w) (automaton_still arcs j.whole) accepts));
   }
+
+-- an automaton accepts the word of a part exactly if it did
+pub worded_renumbered : {L : Type 0} {states states' : List State} (admits : L → Set) (arcs : List (Arc L)) (report : List Row) (words : List ℕ) (p : ℕ) → Renumbered 0 states states' → Worded admits states' arcs report words p ↔ Worded admits states arcs report words p
+worded_renumbered {L} {states} {states'} admits arcs report words p h =
+    let same = at_renumbered 0 states states' arcs h (row report p).automaton in
+    let accepts = λ (m : Automaton L). Accepts admits m (word_at words (row report p).word) in
+    (subst accepts same, subst accepts (sym same))
 
 -- the words of the roots lie as they lay
 pub laid_still : {js : List Join} {parts : ℕ} {report : List Row} {before after : List ℕ} (report' : List Row) → ((p : ℕ) → p < parts → Root js p → row report' p ≡ row report p) → RootsLaid js parts report before after → RootsLaid js parts report' before after

@@ -5,17 +5,16 @@ use borrow.Author.Count.{below_more}
 use Rattle.alphabet.specs.Labels.{Set}
 use Rattle.automaton.specs.declared.Arc.{Arc}
 use Rattle.automaton.specs.declared.State.{State}
-use Rattle.automaton.specs.Automaton.{Automaton, Word, Accepts}
+use Rattle.automaton.specs.Automaton.{Automaton, Accepts}
 use Rattle.build.specs.declared.Place.{Place}
-use Rattle.build.specs.declared.Rows.{Rows}
-use Rattle.build.specs.Tables.{part, at, InUse, Stands}
+use Rattle.build.specs.Tables.{part, at}
 use Rattle.build.proofs.Keeping.{part_kept}
 use Rattle.sheet.specs.declared.Join.{Join}
 use Rattle.verdict.specs.Verdicts.{Root, roots_below}
 use Rattle.words.specs.Words.{Renumbered}
-use Rattle.words.proofs.Renumbering.{renumbered_more, renumbered_less, at_renumbered, in_use_renumbered, stands_renumbered}
+use Rattle.words.proofs.Renumbering.{renumbered_more, renumbered_less, at_renumbered}
 use Rattle.solve.specs.declared.Row.{Row}
-use Rattle.solve.specs.Report.{blank, row, word_len, word_at, automaton_of, Standing, Reworded, RootsLaid, Worded, with_word}
+use Rattle.solve.specs.Report.{blank, row, word_len, word_at, automaton_of, Reworded, RootsLaid, Worded, with_word}
 use Rattle.solve.specs.Roots.{Found}
 use Rattle.solve.proofs.Placing.{reworded_set, reworded_more}
 use Rattle.solve.proofs.Rows.{drop_same_later, reworded_later}
@@ -47,21 +46,8 @@ module _ {L : Type 0} {admits : L → Set} {js : List Join} {parts : ℕ} {arcs 
       let before = roots_before js f p parts low root in
       omega (arith, laying_low, before, ap (λ (a : Place). a.count.states) (h.reworded.automata p), h.laid.long)
 
-  -- all automata are as they were
-  pub laying_at : (place : Place) → at states arcs place ≡ at states₀ arcs place
-  laying_at place = at_renumbered 0 states₀ states arcs (h.renumbered 0 (λ q low. omega arith)) place
-
-  -- the automata of all parts still stand
-  pub laying_stands : {used : Rows} → Standing states₀ arcs used parts report₀ → p < parts → InUse states arcs used × Stands states arcs used (row report p).automaton
-  laying_stands {used} standing low =
-      let same = h.renumbered 0 (λ q low. omega arith) in (
-        in_use_renumbered 0 states₀ states arcs same used standing.in_use,
-        subst (Stands states arcs used) (sym (h.reworded.automata p)) (stands_renumbered 0 states₀ states arcs same used (row report₀ p).automaton (standing.stands p low)),
-      )
-
-  pub laying_accepts : {w : Word} → Accepts admits (automaton_of states₀ arcs report₀ p) w → Accepts admits (automaton_of states arcs report p) w
-  laying_accepts {w} accepts =
-      subst (λ (place : Place). Accepts admits (at states arcs place) w) (sym (h.reworded.automata p)) (subst (λ (m : Automaton L). Accepts admits m w) (sym (laying_at (row report₀ p).automaton)) accepts)
+  pub laying_same : Renumbered 0 states₀ states
+  laying_same = h.renumbered 0 (λ q low. omega arith)
 
   pub laying_is : {states' : List State} {report' : List Row} {words' : List ℕ} {end' : ℕ} → states' ≡ states → report' ≡ report → words' ≡ words → end' ≡ end →
       Laying admits js parts arcs p states₀ states' report₀ report' words₀ words' end'
@@ -127,7 +113,7 @@ module _ {L : Type 0} {admits : L → Set} {js : List Join} {parts : ℕ} {arcs 
     accepts_here : Worded admits states₀ arcs report' words' p
     accepts_here =
         subst (λ (r : Row). Accepts admits (at states₀ arcs r.automaton) (word_at words' r.word)) (sym here)
-        (subst (λ (m : Automaton L). Accepts admits m (part words' end n)) (laying_at (row report p).automaton) found.accepted)
+        (subst (λ (m : Automaton L). Accepts admits m (part words' end n)) (at_renumbered 0 states₀ states arcs laying_same (row report p).automaton) found.accepted)
 
     pub laying_root : Laying admits js parts arcs (p + 1) states₀ states' report₀ (set report p (with_word (row report p) end n)) words₀ words' (end + n)
     laying_root =

@@ -8,14 +8,14 @@ ghost use Rattle.solve.specs.Report.{place_of};
 use build::Place;
 use sheet::{Held, Join};
 
-// The place of the final result of a part, if it is finished.
+// The part of that number with the place of its final result, if it is finished.
 pub fn find(finished: &[Held], part: usize) -> Option<Held>
     ensures finds { result ≡ find_part (λ h. h.part) finished.now part }
 {
     finished.iter().find(|held| held.part == part).copied()
 }
 
-// The same place; nowhere if the part is not finished.
+// The place of its final result; nowhere if the part is not finished.
 pub fn place_of(finished: &[Held], part: usize) -> Place
     ensures finds { result ≡ place_of finished.now part }
 {

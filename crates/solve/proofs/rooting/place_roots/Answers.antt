@@ -1,21 +1,24 @@
-use Rattle.std.proofs.Common.{◌<◌, length, refl, ◌∙◌, arith}
+use Rattle.std.proofs.Common.{◌<◌, length, sym, refl, ◌∙◌, subst, arith}
 use Rattle.std.proofs.lemmas.Bool.Decides.{not_from_Decides}
-use Rattle.solve.proofs.Laying.{laying_room, laying_stands, laying_accepts, laying_other, laying_root, laying_is}
+use Rattle.automaton.specs.Automaton.{Accepts}
+use Rattle.solve.proofs.Judged.{automaton_still, standing_still}
+use Rattle.solve.proofs.Laying.{laying_room, laying_same, laying_other, laying_root, laying_is}
 use Rattle.solve.proofs.rooting.place_roots.Goals as goal
 use Rattle.solve.proofs.rooting.place_roots.Goals.{then-is_root, else-is_root}
 
 pub place_root-end-requires : goal.place_root-end-requires
 place_root-end-requires g c =
+    let p = c.loop-part.part in
     let inv = c.loop-part.invariant in
     let low = c.loop-part-test.true in
-    let some = c.requires.accepts c.loop-part.part low in
-    let stands = laying_stands inv c.requires.standing low in
+    let some = c.requires.accepts p low in
+    let standing = standing_still inv.reworded (laying_same inv) c.requires.standing in
     record {
-      has_row = omega (arith, low, c.requires.standing.rows_there, c.loop-part.auto.report);
+      has_row = omega (arith, low, standing.rows_there);
       has_room = laying_room inv low (c.is_root.ensures.decides.0 c.if-is_root.true) c.requires.has_room;
-      in_use = stands.0;
-      stands = stands.1;
-      accepts = (some.0, laying_accepts inv some.1);
+      in_use = standing.in_use;
+      stands = standing.stands p low;
+      accepts = (some.0, subst (λ m. Accepts g.A.Alphabet.labels.admits m some.0) (sym (automaton_still inv.reworded (laying_same inv) c.args.arcs.now p)) some.1);
     }
 
 pub loop-part-preserved : goal.loop-part-preserved
