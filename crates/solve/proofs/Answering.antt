@@ -1,9 +1,9 @@
 -- What each way out of solving promises.
-use Rattle.std.proofs.Common.{◌≡◌, ℕ, ◌+◌, ◌-◌, ◌<◌, ◌≤◌, true, ◌↔◌, List, ◌++◌, map, length, get_or, take, drop, is_some, Some, None, Option, sym, refl, ap, ◌∙◌, subst, inl, inr, arith}
+use Rattle.std.proofs.Common.{◌≡◌, ℕ, ◌+◌, ◌-◌, ◌<◌, ◌≤◌, ◌↔◌, List, ◌++◌, map, length, get_or, take, drop, Ok, Err, Result, sym, refl, ap, ◌∙◌, subst, inl, inr, arith}
 use Rattle.std.specs.List.{ContainsAt as Has}
 use Rattle.std.proofs.ByRecursion.{has_get_or}
-use Rattle.std.proofs.lemmas.List.{length-map, get_or-map, take-take, drop-take, drop-drop, take-append-drop}
-use Rattle.std.proofs.lemmas.Bool.{false≢true}
+use Rattle.std.proofs.lemmas.List.{length-map, get_or-map, drop-drop}
+use Rattle.std.proofs.Math.Seq.{take-add}
 use Rattle.alphabet.specs.Labels.{Labels, Lawful}
 use Rattle.automaton.specs.declared.Arc.{Arc}
 use Rattle.automaton.specs.declared.State.{State}
@@ -12,22 +12,23 @@ use Rattle.build.specs.declared.Place.{Place}
 use Rattle.build.specs.declared.Rows.{Rows}
 use Rattle.build.specs.Concats.{InTurn}
 use Rattle.build.specs.Tables.{part, at, Stands, Kept}
-use Rattle.build.proofs.Keeping.{kept_more}
+use Rattle.build.proofs.Keeping.{kept_none, kept_more}
 use Rattle.sheet.specs.declared.Held.{Held}
 use Rattle.sheet.specs.declared.Join.{Join}
-use Rattle.sheet.specs.Calls.{View}
+use Rattle.sheet.specs.declared.Refusal.{Refusal}
+use Rattle.sheet.specs.Calls.{View, number}
+use Rattle.sheet.specs.Checks.{FirstFails}
 use Rattle.sheet.specs.Joins.{Known}
 use Rattle.sheet.specs.Patterns.{ForParts, Whole, nowhere}
 use Rattle.verdict.specs.declared.Solved.{Solved}
 use Rattle.verdict.specs.declared.Table.TheVariants.{States, Arcs, Words}
 use Rattle.verdict.specs.declared.Verdict.{Verdict}
 use Rattle.verdict.specs.declared.Verdict.TheVariants.{OutOfRoom, Impossible, Unknown, Possible}
-use Rattle.verdict.specs.Course.{Done, find, result_of, complete}
-use Rattle.verdict.specs.Meaning.{Unsatisfiable}
+use Rattle.verdict.specs.Course.{Done, result_of, complete}
+use Rattle.verdict.specs.Meaning.{CoursesExact, Unsatisfiable}
 use Rattle.verdict.specs.Problem.{Problem, Pattern, Satisfies, read, problem}
 use Rattle.verdict.specs.Verdicts.{SingleUse, roots_below, bound, bounds_below, totals, Given}
 use Rattle.verdict.proofs.Exactness.{courses_exact, no_word_none, complete_all}
-use Rattle.verdict.proofs.Finding.{find_has}
 use Rattle.verdict.proofs.Living.{courses_worded}
 use Rattle.verdict.proofs.Unique.{given_unique}
 use Rattle.words.specs.Words.{Renumbered}
@@ -39,12 +40,13 @@ use Rattle.solve.specs.Builds.{room}
 use Rattle.solve.specs.Finishing.{Completed, Stopped}
 use Rattle.solve.specs.Judging.{Ready, Filled, Judges}
 use Rattle.solve.specs.Parts.{dones}
-use Rattle.solve.specs.Report.{row, place_or, place_of, word_at, automaton_of}
+use Rattle.solve.specs.Report.{row, place_of, word_at, automaton_of}
 use Rattle.solve.specs.Roots.{bound_in}
-use Rattle.solve.specs.Solving.{Reported, WhenPossible, WhenUnknown, WhenImpossible, Leaves, Reports, RowAllows, ReportsExactly, placed, Lays, NoWords, Decided, stop_verdict, used_of}
+use Rattle.solve.specs.Solving.{solve_checks, SolveAnswer, OnlyAnswer, Told, LeavesAll, Reported, WhenPossible, WhenUnknown, WhenImpossible, Leaves, Reports, RowAllows, ReportsExactly, placed, Lays, NoWords, Decided, stop_verdict, used_of}
 use Rattle.solve.proofs.Coursing.{among_finished}
+use Rattle.solve.proofs.Finds.{found_place}
 use Rattle.solve.proofs.Going.{states_at}
-use Rattle.solve.proofs.Judged.{listed_place}
+use Rattle.solve.proofs.Judged.{in_turn_same, worded_renumbered, listed_place}
 use Rattle.solve.proofs.Operands.{result_at, stands_found}
 use Rattle.solve.proofs.Uses.{roots_same}
 
@@ -70,11 +72,7 @@ held_read states arcs hs P all x has =
 
 -- a word in two pieces
 pub word_pieces : (words : List ℕ) (f m n : ℕ) → part words f (m + n) ≡ part words f m ++ part words (f + m) n
-word_pieces words f m n =
-    let xs = drop f words in
-    let front = take-take m (m + n) xs (omega arith) in
-    let back = drop-take m n xs ∙ ap (take n) (drop-drop m f words) in
-    sym (take-append-drop m (take (m + n) xs)) ∙ (λ i. front i ++ back i)
+word_pieces words f m n = take-add m n (drop f words) ∙ ap (λ l. part words f m ++ take n l) (drop-drop m f words)
 
 -- the builds ended early
 module _ {L : Type 0} (a : Labels L) (laws : Lawful a) (v : View) (states : List State) (arcs : List (Arc L)) (states' : List State) (arcs' : List (Arc L)) (report : List Row) (words : List ℕ) where
@@ -111,10 +109,8 @@ module _ {L : Type 0} (a : Labels L) (laws : Lawful a) (v : View) (known : Known
   in_turn : (j : Join) → Has v.joins j → (w : Word) → InTurn a.admits (result_of r.finished j.left) (result_of r.finished j.right) w ↔ InTurn a.admits (automaton_of states' arcs' report' j.left) (automaton_of states' arcs' report' j.right) w
   in_turn j has w =
       let l = r.results j.left (known j has).1 in
-      let k = r.results j.right (known j has).2 in (
-        λ t. (t.0, t.1, t.2, subst (λ m. Accepts a.admits m t.0) (sym l) t.3, subst (λ m. Accepts a.admits m t.1) (sym k) t.4),
-        λ t. (t.0, t.1, t.2, subst (λ m. Accepts a.admits m t.0) l t.3, subst (λ m. Accepts a.admits m t.1) k t.4),
-      )
+      let k = r.results j.right (known j has).2 in
+      (in_turn_same w l k, in_turn_same w (sym l) (sym k))
 
   pub exactly_reported : ReportsExactly a (problem v states arcs) states' arcs' report'
   exactly_reported p low w =
@@ -136,11 +132,7 @@ module _ {L : Type 0} (a : Labels L) (laws : Lawful a) (v : View) (known : Known
   stands_of p low = stands_found states arcs hs p used h.built.stand (h.all p low)
 
   behind_of : (p : ℕ) → p < v.parts → v.held.states ≤ (place_of hs p).first.states
-  behind_of p low = by (find (λ h. h.part) hs p) refl (h.all p low)
-    where
-      by : (o : Option Held) → find (λ h. h.part) hs p ≡ o → is_some o ≡ true → v.held.states ≤ (place_or o).first.states
-      by None e some = absurd (false≢true some)
-      by (Some x) e some = h.built.behind x (find_has (λ h. h.part) hs p x e).0
+  behind_of p low = found_place hs p (λ place. v.held.states ≤ place.first.states) h.built.behind (h.all p low)
 
   -- what the judge needs to know
   pub ready : Ready a.admits states arcs used v.parts v.joins hs
@@ -153,8 +145,8 @@ module _ {L : Type 0} (a : Labels L) (laws : Lawful a) (v : View) (known : Known
     splits = λ j has w accepts.
         let low = known j has in
         let exact = courses_exact a laws (room states₀ arcs₀) s (complete ds used) h.course j.whole (among_finished states arcs hs j.whole (h.all j.whole low.0)) w in
-        let t = (exact.0 (subst (λ m. Accepts a.admits m w) (sym (result_at states arcs hs j.whole)) accepts)).joins j has refl in
-        (t.0, t.1, t.2, subst (λ m. Accepts a.admits m t.0) (result_at states arcs hs j.left) t.3, subst (λ m. Accepts a.admits m t.1) (result_at states arcs hs j.right) t.4);
+        in_turn_same w (sym (result_at states arcs hs j.left)) (sym (result_at states arcs hs j.right))
+        ((exact.0 (subst (λ m. Accepts a.admits m w) (sym (result_at states arcs hs j.whole)) accepts)).joins j has refl);
   }
 
   bound_same : (p : ℕ) → p < v.parts → bound ds p ≡ bound_in hs p
@@ -179,7 +171,7 @@ module _ {L : Type 0} (a : Labels L) (laws : Lawful a) (v : View) (known : Known
     -- the words that were placed
     module _ (f : Filled a v.parts v.joins hs states states' arcs report report' words words') where
       same_place : (p : ℕ) → p < v.parts → (row report' p).automaton ≡ place_of hs p
-      same_place p low = f.placed.reworded.automata p ∙ listed_place a.admits states arcs used v.parts v.joins hs report f.listed f.lists p low
+      same_place p low = f.placed.reworded.automata p ∙ listed_place f.lists p low
 
       again : Renumbered 0 states states'
       again = f.placed.renumbered 0 (λ p low. omega arith)
@@ -191,7 +183,7 @@ module _ {L : Type 0} (a : Labels L) (laws : Lawful a) (v : View) (known : Known
       filled_exactly = exactly_reported a laws v known states₀ arcs₀ states' arcs report' filled_reports
 
       allowed : (p : ℕ) → p < v.parts → RowAllows a s states' arcs report' p (placed report' words' p)
-      allowed p low = (filled_exactly p low (placed report' words' p)).0 (subst (λ m. Accepts a.admits m (placed report' words' p)) (sym (at_renumbered 0 states states' arcs again (row report' p).automaton)) (f.placed.accepts p low))
+      allowed p low = (filled_exactly p low (placed report' words' p)).0 ((worded_renumbered a.admits arcs report' words' p again).1 (f.placed.accepts p low))
 
       filled_satisfies : Satisfies a s (placed report' words')
       filled_satisfies = record {
@@ -208,14 +200,14 @@ module _ {L : Type 0} (a : Labels L) (laws : Lawful a) (v : View) (known : Known
 
       filled_kept : Kept v.held.states states₀ states'
       filled_kept =
-          let still = f.placed.renumbered v.held.states (λ p low. omega (arith, behind_of p low, ap (λ (x : Place). x.first.states) (listed_place a.admits states arcs used v.parts v.joins hs report f.listed f.lists p low))) in
+          let still = f.placed.renumbered v.held.states (λ p low. omega (arith, behind_of p low, ap (λ (x : Place). x.first.states) (listed_place f.lists p low))) in
           kept_more v.held.states states₀ states states' h.built.states_kept (record { long = length-renumbered v.held.states states states' still; front = still.front })
 
     -- the verdict, with the report and the words
     pub judged_answered : (x : Verdict) → Judges a v.parts v.joins hs states states' arcs report report' words words' x → Answered a v states₀ arcs₀ states' arcs report report' words words' (record { verdict = x; totals = totals v.held used })
     judged_answered Unknown j =
         let same : Renumbered 0 states states' = record { marks = ap (map (λ (s : State). s.marks)) j.2; front = refl } in
-        let place = listed_place a.admits states arcs used v.parts v.joins hs report report' j.1 in
+        let place = listed_place j.1 in
         let reports = reported states' report' same place in
         record {
           given = record { outcome = complete ds used; course = h.course; judged = inl (j.0, refl) };
@@ -284,3 +276,59 @@ module _ {L : Type 0} (a : Labels L) (laws : Lawful a) (v : View) (known : Known
 -- the rules give no other verdict
 pub only : {L : Type 0} (a : Labels L) (v : View) (states : List State) (arcs : List (Arc L)) (words : ℕ) (x : Solved) → Whole v.patterns v.held states arcs → Given a (room states arcs) words (problem v states arcs) x → (y : Solved) → Given a (room states arcs) words (problem v states arcs) y → y ≡ x
 only a v states arcs words x whole g y g' = given_unique a (room states arcs) words (problem v states arcs) (held_read states arcs v.patterns (λ x. Inside x.automaton) whole.inside) g' g
+
+-- all that solving promises
+abbrev pub Promised : {L : Type 0} → Labels L → View → List State → List (Arc L) → List State → List (Arc L) → List Row → List Row → List ℕ → List ℕ → Result Solved Refusal → Type 0
+Promised a v states arcs states' arcs' report report' words words' r = record {
+  answers : SolveAnswer a v states arcs (length report) (length words) r;
+  only_answer : OnlyAnswer a v states arcs (length words) r;
+  keeps_held_states : Kept v.held.states states states';
+  keeps_held_arcs : Kept v.held.arcs arcs arcs';
+  leaves : LeavesAll v.parts states states' arcs arcs' report report' words words' r;
+  reports : Told r (λ x. Reported x (Reports a v states arcs states' arcs' report'));
+  reports_exactly : Told r (λ x. Reported x (ReportsExactly a (problem v states arcs) states' arcs' report'));
+  courses_are_exact : CoursesExact a (room states arcs) (problem v states arcs);
+  impossible_means_no_words : Told r (λ x. WhenImpossible x (Unsatisfiable a (problem v states arcs)));
+  possible_words_satisfy : Told r (λ x. WhenPossible x (Satisfies a (problem v states arcs) (placed report' words')));
+  lays_words : Told r (λ x. WhenPossible x (Lays (problem v states arcs) report' words words'));
+  unknown_leaves_word_fields_empty : Told r (λ x. WhenUnknown x (NoWords v.parts report'));
+  decides_single_use : Told r (λ x. SingleUse v.joins → Decided a (problem v states arcs) x);
+}
+
+module _ {L : Type 0} (a : Labels L) (laws : Lawful a) (v : View) (states : List State) (arcs : List (Arc L)) (report : List Row) (words : List ℕ) where
+  -- a check fails
+  pub refused : (e : Refusal) → FirstFails (solve_checks v states arcs (length report)) (number e) → Promised a v states arcs states arcs report report words words (Err e)
+  refused e fails = record {
+    answers = fails;
+    only_answer = tt;
+    keeps_held_states = kept_none v.held.states states;
+    keeps_held_arcs = kept_none v.held.arcs arcs;
+    leaves = (refl, refl, refl, refl);
+    reports = tt;
+    reports_exactly = tt;
+    courses_are_exact = courses_exact a laws (room states arcs) (problem v states arcs);
+    impossible_means_no_words = tt;
+    possible_words_satisfy = tt;
+    lays_words = tt;
+    unknown_leaves_word_fields_empty = tt;
+    decides_single_use = tt;
+  }
+
+  -- the checks hold, and there is a verdict
+  pub promised : {states' : List State} {arcs' : List (Arc L)} {report' : List Row} {words' : List ℕ} {x : Solved} → Whole v.patterns v.held states arcs → v.parts ≤ length report →
+      Answered a v states arcs states' arcs' report report' words words' x → Promised a v states arcs states' arcs' report report' words words' (Ok x)
+  promised {x = x} whole fits done = record {
+    answers = ((whole, (fits, tt)), done.given);
+    only_answer = only a v states arcs (length words) x whole done.given;
+    keeps_held_states = done.states_kept;
+    keeps_held_arcs = done.arcs_kept;
+    leaves = done.leaves;
+    reports = done.reports;
+    reports_exactly = done.exactly;
+    courses_are_exact = courses_exact a laws (room states arcs) (problem v states arcs);
+    impossible_means_no_words = done.impossible;
+    possible_words_satisfy = done.satisfies;
+    lays_words = done.lays;
+    unknown_leaves_word_fields_empty = done.no_words;
+    decides_single_use = done.decided;
+  }

@@ -13,7 +13,7 @@ use Rattle.build.specs.Tables.{InUse, Stands}
 use Rattle.build.proofs.Keeping.{kept_none, kept_more, kept_less}
 use Rattle.sheet.specs.declared.Held.{Held}
 use Rattle.sheet.specs.Calls.{View}
-use Rattle.sheet.specs.Joins.{Acyclic, Known, none}
+use Rattle.sheet.specs.Joins.{Acyclic, Known}
 use Rattle.sheet.specs.Patterns.{Whole, nowhere}
 use Rattle.verdict.specs.Course.{Finished, Due, Next, pattern_operands, join_operands, operands, Ending, Builds, Outcome, Course, ends, finishes, stops, empties}
 use Rattle.verdict.specs.Problem.{Problem, read, problem}
@@ -46,14 +46,14 @@ module _ {L : Type 0} (states : List State) (arcs : List (Arc L)) (hs : List Hel
       part = low;
       unfinished = λ h. o.unfinished (finished_among p h);
       right_hand = λ j has whole.
-          let both = o.right_hand has.0 has.1 (ap (λ j. j.whole) (has.2 none) ∙ whole) in
-          (among_finished j.left (subst (λ j. Among hs j.left) (has.2 none) both.0), among_finished j.right (subst (λ j. Among hs j.right) (has.2 none) both.1));
+          let both = o.right_hand j has whole in
+          (among_finished j.left both.0, among_finished j.right both.1);
     }
 
     pub due_open : (p : ℕ) → Due s (dones states arcs hs) p → Open s.joins hs p
     due_open p d = record {
       unfinished = λ h. d.unfinished (among_finished p h);
-      right_hand = λ k low whole. let both = d.right_hand (get_or s.joins k none) (has_get_or s.joins k none low) whole in (finished_among _ both.0, finished_among _ both.1);
+      right_hand = λ j has whole. let both = d.right_hand j has whole in (finished_among _ both.0, finished_among _ both.1);
     }
 
     pub open_next : (p : ℕ) → p < s.parts → Open s.joins hs p → ((q : ℕ) → q < p → Open s.joins hs q → ⊥) → Next s (dones states arcs hs) p

@@ -54,9 +54,6 @@ module _ {L : Type 0} (used : Rows) (states states' : List State) (arcs arcs' : 
   pub stands_same : (p : Place) → Stands states arcs used p → Stands states' arcs' used p
   stands_same p h = record { lies = h.lies; inside = subst Inside (sym (at_same p h.lies)) h.inside }
 
-  pub in_use_same : InUse states arcs used → InUse states' arcs' used
-  in_use_same h = record { states_fit = omega (arith, h.states_fit, ks.long); arcs_fit = omega (arith, h.arcs_fit, ka.long) }
-
 -- an automaton stands among more rows too
 pub stands_more : {L : Type 0} (states : List State) (arcs : List (Arc L)) (used more : Rows) (p : Place) → used.states ≤ more.states → used.arcs ≤ more.arcs → Stands states arcs used p → Stands states arcs more p
 stands_more states arcs used more p s e h = record { lies = record { states = omega (arith, h.lies.states); arcs = omega (arith, h.lies.arcs) }; inside = h.inside }

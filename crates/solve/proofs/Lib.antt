@@ -1,5 +1,6 @@
 pub mod Answering
 pub mod Coursing
+pub mod Finds
 pub mod Going
 pub mod Judged
 pub mod Laying

@@ -1,10 +1,10 @@
 -- The operands of a part, pattern by pattern and join by join, and automata in kept rows.
-use Rattle.std.proofs.Common.{◌≡◌, ℕ, ◌+◌, ◌<◌, Bool, true, false, cond, eqb, List, [], ◌∷◌, ◌++◌, map, length, get_or, take, drop, is_some, Some, None, filter, Option, sym, refl, ap, ◌∙◌}
+use Rattle.std.proofs.Common.{◌≡◌, ℕ, ◌+◌, ◌<◌, Bool, true, false, cond, eqb, List, [], ◌∷◌, ◌++◌, map, length, get_or, take, drop, Some, None, filter, Option, sym, refl, ap, ◌∙◌}
 use Rattle.std.specs.Option.{option_map}
 use Rattle.std.specs.List.{ContainsAt as Has}
 use Rattle.std.proofs.lemmas.List.Elements.{filter-append}
 use Rattle.std.proofs.lemmas.List.{map-append, map_more, take_more, take-append-drop}
-use Rattle.std.proofs.lemmas.Bool.{eq-eqb, ne_eqb, false≢true}
+use Rattle.std.proofs.lemmas.Bool.{eq-eqb, ne_eqb}
 use Rattle.automaton.specs.declared.Arc.{Arc}
 use Rattle.automaton.specs.declared.State.{State}
 use Rattle.build.specs.declared.Rows.{Rows}
@@ -15,10 +15,11 @@ use Rattle.sheet.specs.Joins.{none}
 use Rattle.sheet.specs.Patterns.{nowhere}
 use Rattle.verdict.specs.Course.{Done, Operand, pattern, join, find, result_or, result_of, pattern_operands, join_operands}
 use Rattle.verdict.specs.Problem.{Pattern, read}
-use Rattle.verdict.proofs.Finding.{has_first, has_rest, find_has, find_map}
+use Rattle.verdict.proofs.Finding.{has_first, has_rest, find_map}
 use Rattle.solve.specs.Builds.{AllStand}
 use Rattle.solve.specs.Parts.{Among, done, dones}
 use Rattle.solve.specs.Report.{place_or, place_of}
+use Rattle.solve.proofs.Finds.{found_place}
 use Rattle.solve.proofs.Going.{at_same}
 
 pub map_same : {X Y : Type 0} (f g : X → Y) (xs : List X) → ((x : X) → Has xs x → f x ≡ g x) → map f xs ≡ map g xs
@@ -95,8 +96,4 @@ module _ {L : Type 0} (states : List State) (arcs : List (Arc L)) (hs : List Hel
       by (Some h) = refl
 
   pub stands_found : (used : Rows) → AllStand states arcs used hs → Among hs q → Stands states arcs used (place_of hs q)
-  stands_found used stand among = by (find (λ h. h.part) hs q) refl among
-    where
-      by : (o : Option Held) → find (λ h. h.part) hs q ≡ o → is_some o ≡ true → Stands states arcs used (place_or o)
-      by None e some = absurd (false≢true some)
-      by (Some h) e some = stand h (find_has (λ h. h.part) hs q h e).0
+  stands_found used stand among = found_place hs q (Stands states arcs used) stand among

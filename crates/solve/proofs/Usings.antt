@@ -1,31 +1,29 @@
 -- How often a part stands on right-hand sides, by the places of the joins.
-use Rattle.std.proofs.Common.{◌≡◌, ℕ, suc, ◌<◌, ◌≤◌, cond, eqb, ◌⊎◌, List, length, get_or, set, refl, ap, inl, inr, arith}
+use Rattle.std.proofs.Common.{◌≡◌, ℕ, suc, ◌<◌, ◌≤◌, Bool, true, false, ◌⊎◌, List, length, get_or, set, Decides, sym, refl, ap, subst, inl, inr, ⊎_elim, arith}
+use Rattle.std.specs.Bool.{MatchBool}
+use Rattle.std.specs.List.{AllWithin, HoldsAt}
 use Rattle.std.proofs.lemmas.List.{length-set, get_or-set_other}
 use Rattle.std.proofs.lemmas.List.Sums.{sum_by-set, get_or-le-sum_by}
-use Rattle.std.proofs.lemmas.Bool.{eq-eqb, ne_eqb}
+use Rattle.std.proofs.lemmas.Bool.{both_ways}
+use Rattle.std.proofs.lemmas.Bool.Decides.{nat_tests}
 use Rattle.sheet.specs.declared.Join.{Join}
 use Rattle.sheet.specs.Joins.{none}
 use Rattle.verdict.specs.Verdicts.{uses_in, SingleUse, Root}
+use Rattle.verdict.proofs.Chains.{cases_root}
 
 -- the part is the left or the right
 abbrev pub UsedBy : ℕ → Join → Type 0
 UsedBy p j = (j.left ≡ p) ⊎ (j.right ≡ p)
 
-one_if : (a p : ℕ) → a ≡ p → ◌≡◌ {A = ℕ} (cond (eqb a p) 1 0) 1
-one_if a p same = ap (λ b. cond b 1 0) (eq-eqb a p same)
-
-none_if : (a p : ℕ) → (a ≡ p → ⊥) → ◌≡◌ {A = ℕ} (cond (eqb a p) 1 0) 0
-none_if a p other = ap (λ b. cond b 1 0) (ne_eqb a p other)
-
 pub used_once : (p : ℕ) (j : Join) → UsedBy p j → 1 ≤ uses_in p j
-used_once p j (inl same) = omega (arith, one_if j.left p same)
-used_once p j (inr same) = omega (arith, one_if j.right p same)
+used_once p j (inl same) = grind (arith, nat_tests)
+used_once p j (inr same) = grind (arith, nat_tests)
 
-pub used_twice : (p : ℕ) (j : Join) → j.left ≡ p → j.right ≡ p → 2 ≤ uses_in p j
-used_twice p j left right = omega (arith, one_if j.left p left, one_if j.right p right)
+used_twice : (p : ℕ) (j : Join) → j.left ≡ p → j.right ≡ p → 2 ≤ uses_in p j
+used_twice p j left right = grind (arith, nat_tests)
 
 pub used_never : (p : ℕ) (j : Join) → (j.left ≡ p → ⊥) → (j.right ≡ p → ⊥) → uses_in p j ≡ 0
-used_never p j left right = omega (arith, none_if j.left p left, none_if j.right p right)
+used_never p j left right = grind (arith, nat_tests)
 
 module _ (js : List Join) (k : ℕ) (low : k < length js) where
   abbrev j : Join
@@ -56,3 +54,9 @@ module _ (js : List Join) (k : ℕ) (low : k < length js) where
         used_never p unused (λ e. omega arith) (λ e. omega arith),
         single p,
       )
+
+-- a part is a root exactly if no join has it on its right-hand side
+pub cases_used : (js : List Join) (p : ℕ) (r : Bool) → MatchBool r (AllWithin (λ j. UsedBy p j → ⊥) js 0 (length js)) ((k : ℕ) × (k < length js) × HoldsAt (UsedBy p) js k) → Decides r (Root js p)
+cases_used js p true unused =
+    (λ _. ⊎_elim (λ root. root) (λ u. let has = u.1.1 in absurd (unused has.0 none (omega arith) has.1 (subst (UsedBy p) (sym (has.2 none)) u.1.3))) (cases_root js p), λ _. refl)
+cases_used js p false (k, low, used) = (λ e. absurd (both_ways false refl e), λ root. absurd (not_root js k low p (used none) root))

@@ -1,11 +1,11 @@
 -- Finished parts, by the places of their final results.
-use Rattle.std.specs.Prelude.{◌≡◌, ℕ, ◌<◌, true, List, map, length, is_some, slice_index_or}
+use Rattle.std.specs.Prelude.{◌≡◌, ℕ, true, List, map, is_some}
+use Rattle.std.specs.List.{ContainsAt as Has}
 use Rattle.automaton.specs.declared.Arc.{Arc}
 use Rattle.automaton.specs.declared.State.{State}
 use Rattle.build.specs.Tables.{at}
 use Rattle.sheet.specs.declared.Held.{Held}
 use Rattle.sheet.specs.declared.Join.{Join}
-use Rattle.sheet.specs.Joins.{none}
 use Rattle.verdict.specs.Course.{Done, find}
 
 -- a part is finished
@@ -15,7 +15,7 @@ Among hs p = is_some (find (λ h. h.part) hs p) ≡ true
 -- not finished, and all its right-hand parts are
 pub record Open (js : List Join) (hs : List Held) (p : ℕ) : Type 0 where
   pub unfinished : Among hs p → ⊥
-  pub right_hand : (k : ℕ) → k < length js → (slice_index_or js k none).whole ≡ p → Among hs (slice_index_or js k none).left × Among hs (slice_index_or js k none).right
+  pub right_hand : (j : Join) → Has js j → j.whole ≡ p → Among hs j.left × Among hs j.right
 
 -- a finished part, read from the tables
 abbrev pub done : {L : Type 0} → List State → List (Arc L) → Held → Done L

@@ -10,7 +10,7 @@ ghost use Rattle.solve.specs.Parts.{Among, dones};
 ghost use Rattle.verdict.specs.Course.{pattern, join as joined, Alive, pattern_operands, join_operands};
 ghost use Rattle.verdict.specs.Problem.{read};
 
-use crate::parts::{NOWHERE, next, place_of};
+use crate::parts::{next, place_of};
 use alphabet::Alphabet;
 use automaton::{Arc, State};
 use build::all_words::all_words;
@@ -273,7 +273,7 @@ pub fn finish_all<A: Alphabet>(
     let parts = sheet.counts().parts;
     let patterns = sheet.patterns();
     let joins = sheet.joins();
-    let mut finished = [NOWHERE; MAX_PARTS];
+    let mut finished = [Held::default(); MAX_PARTS];
     let mut count = 0;
     let mut used = sheet.counts().held;
     while let Some(part) = next(parts, joins, &finished[..count]) {

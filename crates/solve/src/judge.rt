@@ -7,8 +7,8 @@ ghost use Rattle.verdict.specs.Verdicts.{SingleUse, roots_below};
 use crate::Row;
 use crate::listing::list_parts;
 use crate::pieces::place_pieces;
+use crate::plan::Plan;
 use crate::rooting::place_roots;
-use crate::roots::{first_without_room, is_single_use};
 use alphabet::Alphabet;
 use automaton::{Arc, State};
 use build::Rows;
@@ -20,18 +20,18 @@ fn place_words<A: Alphabet>(
     states: &mut [State],
     arcs: &[Arc<A::Label>],
     used: Rows,
-    joins: &[Join],
-    parts: usize,
+    plan: &Plan,
     report: &mut [Row],
     words: &mut [u32],
 )
-    requires standing { (Standing states.old arcs.now used parts report.old) × ((Joined parts joins.now) × (SingleUse joins.now)) }
-    requires sound { Sound A.Alphabet.labels.admits states.old arcs.now parts joins.now report.old }
-    requires parts_in_bounds { roots_below joins.now (λ p. (row report.old p).automaton.count.states - 1) parts ≤ length words.old }
-    ensures places { Placed A.Alphabet.labels parts joins.now states.old states.new arcs.now report.old report.new words.old words.new }
+    requires standing { Standing states.old arcs.now used plan.now.parts report.old }
+    requires single_use { SingleUse plan.now.joins.now }
+    requires sound { Sound A.Alphabet.labels.admits states.old arcs.now plan.now.parts plan.now.joins.now report.old }
+    requires has_room { roots_below plan.now.joins.now (λ p. (row report.old p).automaton.count.states - 1) plan.now.parts ≤ length words.old }
+    ensures places { Placed A.Alphabet.labels plan.now.parts plan.now.joins.now states.old states.new arcs.now report.old report.new words.old words.new }
 {
-    place_roots::<A>(states, arcs, used, joins, parts, report, words);
-    place_pieces::<A>(states, arcs, used, joins, parts, report, words);
+    place_roots::<A>(states, arcs, used, plan, report, words);
+    place_pieces::<A>(states, arcs, used, plan.joins, plan.parts, report, words);
 }
 
 // Unknown if a part is used twice; else possible, with words, unless the words table is too short.
@@ -45,20 +45,23 @@ pub fn judge<A: Alphabet>(
     report: &mut [Row],
     words: &mut [u32],
 ) -> Verdict
-    requires { (Ready A.Alphabet.labels.admits states.old arcs.now used parts joins.now finished.now) × ((Joined parts joins.now) × (parts ≤ length report.old)) }
+    requires ready { Ready A.Alphabet.labels.admits states.old arcs.now used parts joins.now finished.now }
+    requires joined { Joined parts joins.now }
+    requires has_rows { parts ≤ length report.old }
     ensures judges { Judges A.Alphabet.labels parts joins.now finished.now states.old states.new arcs.now report.old report.new words.old words.new result }
 {
-    if !is_single_use(joins, parts) {
+    let plan = Plan { joins, parts };
+    if !plan.is_single_use() {
         list_parts(report, finished, parts);
         return Verdict::Unknown;
     }
-    if let Some(part) = first_without_room(joins, parts, finished, words.len()) {
+    if let Some(part) = plan.first_without_room(finished, words.len()) {
         return Verdict::OutOfRoom {
             table: Table::Words,
             part,
         };
     }
     list_parts(report, finished, parts);
-    place_words::<A>(states, arcs, used, joins, parts, report, words);
+    place_words::<A>(states, arcs, used, &plan, report, words);
     Verdict::Possible
 }

@@ -23,6 +23,7 @@ mod judge;
 mod listing;
 mod parts;
 mod pieces;
+mod plan;
 mod rooting;
 mod roots;
 

@@ -7,14 +7,16 @@ use crate::{Row, Span};
 use sheet::Held;
 
 // Writes a row for each part, without a word.
+#[tactic(auto, using(crate::proofs::Rows::listed_more))]
 pub fn list_parts(report: &mut [Row], finished: &[Held], parts: usize)
     requires { parts ≤ length report.old }
     ensures lists { Listed finished.now parts report.old report.new }
 {
+    // by index: of what is written through `iter_mut` a proof knows nothing
     for part in 0..parts {
         report[part] = Row {
             automaton: place_of(finished, part),
-            word: Span { first: 0, len: 0 },
+            word: Span::default(),
         };
     }
 }

@@ -1,43 +1,25 @@
 // Which parts are finished, and which part is the next.
-ghost use Rattle.std.specs.Prelude.{◌≡◌, ℕ, ◌<◌, length, Decides, MatchOption, slice_index_or};
-ghost use Rattle.sheet.specs.Joins.{none};
+ghost use Rattle.std.specs.Prelude.{◌≡◌, ℕ, ◌<◌, Decides, MatchOption};
+ghost use Rattle.std.specs.List.{ContainsAt as Has};
 ghost use Rattle.verdict.specs.Course.{find as find_part};
 ghost use Rattle.solve.specs.Parts.{Among, Open};
 ghost use Rattle.solve.specs.Report.{place_of};
 
-use build::{Place, Rows};
+use build::Place;
 use sheet::{Held, Join};
 
-const NO_ROWS: Rows = Rows { states: 0, arcs: 0 };
-
-pub const NOWHERE: Held = Held {
-    part: 0,
-    place: Place {
-        first: NO_ROWS,
-        count: NO_ROWS,
-    },
-};
-
-// The place of the final result of a part, if it is finished.
+// The part of that number with the place of its final result, if it is finished.
 pub fn find(finished: &[Held], part: usize) -> Option<Held>
     ensures finds { result ≡ find_part (λ h. h.part) finished.now part }
 {
-    for k in 0..finished.len() {
-        if finished[k].part == part {
-            return Some(finished[k]);
-        }
-    }
-    None
+    finished.iter().find(|held| held.part == part).copied()
 }
 
-// The same place; nowhere if the part is not finished.
+// The place of its final result; nowhere if the part is not finished.
 pub fn place_of(finished: &[Held], part: usize) -> Place
     ensures finds { result ≡ place_of finished.now part }
 {
-    match find(finished, part) {
-        Some(held) => held.place,
-        None => NOWHERE.place,
-    }
+    find(finished, part).map_or(Place::default(), |held| held.place)
 }
 
 fn is_finished(finished: &[Held], part: usize) -> bool
@@ -55,14 +37,11 @@ fn has_both(finished: &[Held], join: Join) -> bool
 
 // Whether all right-hand parts of a part are finished.
 fn has_right_hand(joins: &[Join], finished: &[Held], part: usize) -> bool
-    ensures decides { Decides result ((k : ℕ) → k < length joins.now → (slice_index_or joins.now k none).whole ≡ part → Among finished.now (slice_index_or joins.now k none).left × Among finished.now (slice_index_or joins.now k none).right) }
+    ensures decides { Decides result ((j : Join) → Has joins.now j → j.whole ≡ part → Among finished.now j.left × Among finished.now j.right) }
 {
-    for k in 0..joins.len() {
-        if joins[k].whole == part && !has_both(finished, joins[k]) {
-            return false;
-        }
-    }
-    true
+    joins
+        .iter()
+        .all(|join| join.whole != part || has_both(finished, *join))
 }
 
 // Whether a part is not finished, and all its right-hand parts are.
@@ -77,10 +56,5 @@ pub fn next(parts: usize, joins: &[Join], finished: &[Held]) -> Option<usize>
     ensures finds { MatchOption result ((p : ℕ) → p < parts → Open joins.now finished.now p → ⊥)
         (λ p. (p < parts) × Open joins.now finished.now p × ((q : ℕ) → q < p → Open joins.now finished.now q → ⊥)) }
 {
-    for part in 0..parts {
-        if is_open(joins, finished, part) {
-            return Some(part);
-        }
-    }
-    None
+    (0..parts).find(|part| is_open(joins, finished, *part))
 }

@@ -1,60 +1,55 @@
 // The uses of the parts on right-hand sides of joins, and the room for the words of the roots.
-ghost use Rattle.std.specs.Prelude.{◌≡◌, ◌+◌, ◌<◌, ◌≤◌, length, Decides, MatchOption};
-ghost use Rattle.sheet.specs.Joins.{Known};
+ghost use Rattle.std.specs.Prelude.{◌≡◌, ◌+◌, ◌<◌, ◌≤◌, Decides, MatchOption};
 ghost use Rattle.verdict.specs.Verdicts.{uses as uses_of, SingleUse, Root, roots_below};
 ghost use Rattle.solve.specs.Roots.{bound_in};
 
 use crate::parts::place_of;
+use crate::plan::Plan;
 use sheet::{Held, Join};
 
-// How often a part stands on the right-hand sides of joins.
-pub fn uses(joins: &[Join], part: usize) -> usize
-    requires { length joins.now ≤ 64 }
-    ensures counts { result ≡ uses_of joins.now part }
+// Whether a part is a root: it stands on no right-hand side.
+pub fn is_root(joins: &[Join], part: usize) -> bool
+    ensures decides { Decides result (Root joins.now part) }
 {
-    let mut n = 0;
-    for join in joins {
-        let left = if join.left == part { 1 } else { 0 };
-        let right = if join.right == part { 1 } else { 0 };
-        n += left + right;
-    }
-    n
+    joins
+        .iter()
+        .all(|join| join.left != part && join.right != part)
 }
 
-// Whether no part stands more than once on right-hand sides.
-pub fn is_single_use(joins: &[Join], parts: usize) -> bool
-    requires { (length joins.now ≤ 64) × (Known parts joins.now) }
-    ensures decides { Decides result (SingleUse joins.now) }
-{
-    for part in 0..parts {
-        if uses(joins, part) > 1 {
-            return false;
-        }
+impl Plan<'_> {
+    // How often a part stands on the right-hand sides of joins.
+    fn uses(&self, part: usize) -> usize
+        ensures counts { result ≡ uses_of self.now.joins.now part }
+    {
+        self.joins
+            .iter()
+            .map(|join| usize::from(join.left == part) + usize::from(join.right == part))
+            .sum()
     }
-    true
-}
 
-// The first root for whose word there is no room, where each root's word may have one letter less than its final
-// result has states.
-pub fn first_without_room(
-    joins: &[Join],
-    parts: usize,
-    finished: &[Held],
-    words: usize,
-) -> Option<usize>
-    requires { length joins.now ≤ 64 }
-    ensures finds { MatchOption result (roots_below joins.now (bound_in finished.now) parts ≤ words)
-        (λ p. (p < parts) × Root joins.now p × (roots_below joins.now (bound_in finished.now) p ≤ words) × (words < roots_below joins.now (bound_in finished.now) p + bound_in finished.now p)) }
-{
-    let mut sum = 0;
-    for part in 0..parts {
-        if uses(joins, part) == 0 {
-            let bound = place_of(finished, part).count.states.saturating_sub(1);
-            if bound > words - sum {
-                return Some(part);
+    // Whether no part stands more than once on right-hand sides.
+    pub fn is_single_use(&self) -> bool
+        ensures decides { Decides result (SingleUse self.now.joins.now) }
+    {
+        (0..self.parts).all(|part| self.uses(part) <= 1)
+    }
+
+    // The first root for whose word there is no room, where each root's word may have one letter less than its final
+    // result has states.
+    pub fn first_without_room(&self, finished: &[Held], words: usize) -> Option<usize>
+        ensures finds { MatchOption result (roots_below self.now.joins.now (bound_in finished.now) self.now.parts ≤ words)
+            (λ p. (p < self.now.parts) × Root self.now.joins.now p × (roots_below self.now.joins.now (bound_in finished.now) p ≤ words) × (words < roots_below self.now.joins.now (bound_in finished.now) p + bound_in finished.now p)) }
+    {
+        let mut sum = 0;
+        for part in 0..self.parts {
+            if is_root(self.joins, part) {
+                let bound = place_of(finished, part).count.states.saturating_sub(1);
+                if bound > words - sum {
+                    return Some(part);
+                }
+                sum += bound;
             }
-            sum += bound;
         }
+        None
     }
-    None
 }

@@ -1,4 +1,5 @@
 use Rattle.std.proofs.Common.{◌≡◌, ℕ, ◌<◌, List, [], ◌++◌, map, length, get_or, take, Ok, Err, sym, refl, ap, ◌∙◌, subst, arith}
+use Rattle.std.proofs.ByRecursion.{has_get_or}
 use Rattle.std.proofs.lemmas.List.{length-set, length-take-le, take_more_set}
 use Rattle.build.specs.declared.Rows.{Rows}
 use Rattle.build.specs.Tables.{InUse}
@@ -55,7 +56,7 @@ build_part-requires g c =
     let used = c.loop-part.used in
     let at = (goal.at.build_part-requires g c).In-Some in
     let under = c.loop-part.invariant.0 in
-    let found = opened g at in record { in_use = (under.built.in_use, (subst (AllStand s e used) (sym c.patterns-patterns.ensures.held_patterns) (patterns_stand g.A.Alphabet.labels v s₀ e₀ (standing g at) s e hs used under), under.built.stand)); by_index = subst (λ (js : List Join). (k : ℕ) → k < length js → (get_or js k none).whole ≡ c.in-Some.part → Among hs (get_or js k none).left × Among hs (get_or js k none).right) (sym c.joins-joins.ensures.held_joins) found.1.right_hand }
+    let found = opened g at in record { in_use = (under.built.in_use, (subst (AllStand s e used) (sym c.patterns-patterns.ensures.held_patterns) (patterns_stand g.A.Alphabet.labels v s₀ e₀ (standing g at) s e hs used under), under.built.stand)); by_index = subst (λ (js : List Join). (k : ℕ) → k < length js → (get_or js k none).whole ≡ c.in-Some.part → Among hs (get_or js k none).left × Among hs (get_or js k none).right) (sym c.joins-joins.ensures.held_joins) (λ k low. found.1.right_hand (get_or v.joins k none) (has_get_or v.joins k none low)) }
 
 pub bounds-finished-count : goal.bounds-finished-count
 bounds-finished-count g c = (below g (goal.at.bounds-finished-count g c).In-Some).1

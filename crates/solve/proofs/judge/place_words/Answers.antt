@@ -1,62 +1,46 @@
-use Rattle.std.proofs.Common.{sym, ap, subst, arith}
-use Rattle.automaton.specs.Automaton.{Accepts}
+use Rattle.std.proofs.Common.{ap, arith}
 use Rattle.build.specs.declared.Place.{Place}
 use Rattle.verdict.proofs.Chains.{rooted}
-use Rattle.words.proofs.Renumbering.{at_renumbered, renumbered_more}
-use Rattle.solve.specs.Report.{row, word_at, word_len}
-use Rattle.solve.proofs.Judged.{standing_still, sound_still, laid_still}
+use Rattle.words.proofs.Renumbering.{renumbered_more}
+use Rattle.solve.specs.Report.{word_len}
+use Rattle.solve.proofs.Judged.{standing_still, sound_still, worded_renumbered, laid_still}
 use Rattle.solve.proofs.Placing.{reworded_more}
 use Rattle.solve.proofs.Uses.{roots_before}
 use Rattle.solve.proofs.judge.place_words.Goals as goal
 
-pub place_roots-requires : goal.place_roots-requires
-place_roots-requires g c = record { standing = (c.requires.standing.0, c.requires.standing.1.0.few_joins); by_index = c.requires.sound.worded; parts_in_bounds = c.requires.parts_in_bounds }
-
 pub place_pieces-requires : goal.place_pieces-requires
 place_pieces-requires g c =
     let admits = g.A.Alphabet.labels.admits in
-    let s = c.args.states.now in
-    let e = c.args.arcs.now in
-    let js = c.args.joins.now in
-    let parts = c.args.parts in
-    let r = c.args.report.now in
-    let s' = c.place_roots.new.states in
-    let r' = c.place_roots.new.report in
-    let ws = c.place_roots.new.words in
+    let plan = c.args.plan.now in
+    let js = plan.joins.now in
+    let report = c.place_roots.new.report in
+    let words = c.place_roots.new.words in
     let roots = c.place_roots.ensures in
-    let joined = c.requires.standing.1.0 in
     let again = roots.renumbers 0 (λ p low. omega arith) in
-    let sound = sound_still s s' e r r' roots.rewords.automata again admits parts js c.requires.sound in record {
-      standing = (standing_still s s' e r r' roots.rewords.automata again c.args.used parts roots.rewords.long c.requires.standing.0, (joined.few_parts, joined.few_joins));
-      single_use = (c.requires.standing.1.1, joined.known);
-      in_turn = sound.splits;
+    record {
+      standing = (standing_still roots.rewords again c.requires.standing, (plan.few_parts, plan.few_joins));
+      single_use = (c.requires.single_use, plan.known);
+      in_turn = (sound_still roots.rewords again c.requires.sound).splits;
       by_index = (λ p low root. (
-        subst (λ m. Accepts admits m (word_at ws (row r' p).word)) (sym (at_renumbered 0 s s' e again (row r' p).automaton)) (roots.accepts p low root),
-        omega (arith, roots.lays.first p low root, roots_before js (word_len r') p parts low root, roots.lays.within, roots.lays.long),
+        (worded_renumbered admits c.args.arcs.now report words p again).1 (roots.accepts p low root),
+        omega (arith, roots.lays.first p low root, roots_before js (word_len report) p plan.parts low root, roots.lays.within, roots.lays.long),
       ));
-      by_index_2 = rooted js parts joined.acyclic joined.known;
+      by_index_2 = rooted js plan.parts plan.acyclic plan.known;
     }
 
 pub returns : goal.returns
 returns g c =
     let admits = g.A.Alphabet.labels.admits in
-    let s = c.args.states.now in
-    let e = c.args.arcs.now in
-    let parts = c.args.parts in
-    let r = c.args.report.now in
-    let s' = c.place_roots.new.states in
-    let r' = c.place_roots.new.report in
-    let s'' = c.place_pieces.new.states in
-    let r'' = c.place_pieces.new.report in
+    let report = c.place_pieces.new.report in
     let roots = c.place_roots.ensures in
     let pieces = c.place_pieces.ensures in
     let again = roots.renumbers 0 (λ p low. omega arith) in
     record {
       places = record {
-        renumbered = λ n low. renumbered_more n s s' s'' (roots.renumbers n low) (pieces.renumbers n (λ p lt. omega (arith, low p lt, ap (λ (x : Place). x.first.states) (roots.rewords.automata p))));
-        reworded = reworded_more parts r r' r'' roots.rewords pieces.rewords;
-        roots = laid_still c.args.joins.now parts r' r'' c.args.words.now c.place_roots.new.words pieces.keeps_roots roots.lays;
+        renumbered = λ n low. renumbered_more n c.args.states.now c.place_roots.new.states c.place_pieces.new.states (roots.renumbers n low) (pieces.renumbers n (λ p lt. omega (arith, low p lt, ap (λ (x : Place). x.first.states) (roots.rewords.automata p))));
+        reworded = reworded_more c.args.plan.now.parts c.args.report.now c.place_roots.new.report report roots.rewords pieces.rewords;
+        roots = laid_still report pieces.keeps_roots roots.lays;
         pieces = pieces.pieces;
-        accepts = λ p low. subst (λ m. Accepts admits m (word_at c.place_roots.new.words (row r'' p).word)) (at_renumbered 0 s s' e again (row r'' p).automaton) (pieces.accepts p low);
+        accepts = λ p low. (worded_renumbered admits c.args.arcs.now report c.place_roots.new.words p again).0 (pieces.accepts p low);
       };
     }
