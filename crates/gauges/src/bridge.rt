@@ -1,13 +1,16 @@
 // The bridge station's sheet, entered call by call or solved: its reply is an optional acknowledgement and then the
 // temperature, which is a number and its unit.
+use crate::lines::Quoted;
+use crate::rows::{spare_arc, table};
 use crate::solving;
-use crate::weir::state;
-use alphabet::Alphabet;
 use alphabet::text::{Text, TextLabel};
 use automaton::{Arc, State};
+use build::Rows;
 use giver::fixed::FixedText;
-use sheet::{Join, Refusal, Sheet};
+use sheet::{Counts, Join, Refusal, Sheet};
 use std::alloc::{AllocError, Global};
+use std::fmt;
+use std::fmt::Write;
 
 // So many rows are lent while the sheet is entered.
 const ROWS: usize = 16;
@@ -24,6 +27,49 @@ const REPLY: usize = 4;
 
 const NAMES: [&str; 5] = ["acknowledgement", "number", "unit", "temperature", "reply"];
 
+// The texts and the joins that are entered, in this order. Some are there to be refused.
+const TEXTS: [(usize, &[u32]); 5] = [
+    (ACKNOWLEDGEMENT, &[35]),
+    (NUMBER, &[49, 50, 46, 53]),
+    (UNIT, &[176, 67]),
+    (5, &[35]),
+    (REPLY, &[49, 50, 46, 53, 176, 67]),
+];
+
+const JOINS: [Join; 3] = [
+    Join {
+        whole: TEMPERATURE,
+        left: NUMBER,
+        right: UNIT,
+    },
+    Join {
+        whole: REPLY,
+        left: ACKNOWLEDGEMENT,
+        right: TEMPERATURE,
+    },
+    Join {
+        whole: NUMBER,
+        left: REPLY,
+        right: UNIT,
+    },
+];
+
+// The answer to a call as it is printed: what it gave, or the number of its refusal.
+#[derive(Drop)]
+struct Answer<T>(Result<T, Refusal>);
+
+impl<T: fmt::Display> fmt::Display for Answer<T> {
+    fn fmt<W: fmt::Write>(&self, f: &mut fmt::Formatter<W>) -> fmt::Result {
+        match &self.0 {
+            Ok(given) => write!(f, "{given}"),
+            Err(refusal) => {
+                let number = refusal.number();
+                write!(f, "refused {number}")
+            }
+        }
+    }
+}
+
 // The sheet and the tables that are lent to its calls.
 #[derive(Drop)]
 struct Bridge {
@@ -32,20 +78,12 @@ struct Bridge {
     arcs: [Arc<TextLabel>; ROWS],
 }
 
-fn spare_arc() -> Arc<TextLabel> {
-    Arc {
-        from: 0,
-        label: Text::full(),
-        to: 0,
-    }
-}
-
 impl Bridge {
     fn new() -> Bridge {
         Bridge {
             sheet: Sheet::new(),
-            states: [state(false, false); ROWS],
-            arcs: [spare_arc(); ROWS],
+            states: [State::default(); ROWS],
+            arcs: [spare_arc::<Text>(); ROWS],
         }
     }
 
@@ -55,102 +93,77 @@ impl Bridge {
             .pattern::<Text, FixedText<'_>>(&mut self.states, &mut self.arcs, part, &text)
     }
 
-    // The record of solving the sheet, in larger tables.
-    fn solved(&self, heap: Global) -> Result<String, AllocError> {
-        let mut states = solving::table(heap, &self.states, state(false, false))?;
-        let mut arcs = solving::table(heap, &self.arcs, spare_arc())?;
-        solving::record::<Text>(heap, "bridge", &self.sheet, &NAMES, &mut states, &mut arcs)
-    }
-}
-
-fn joined(whole: usize, left: usize, right: usize) -> Join {
-    Join { whole, left, right }
-}
-
-fn part_line(
-    heap: Global,
-    name: &str,
-    answer: Result<usize, Refusal>,
-) -> Result<String, AllocError> {
-    match answer {
-        Ok(n) => format!(in heap; "part {name}: {n}\n"),
-        Err(e) => {
-            let number = e.number();
-            format!(in heap; "part {name}: refused {number}\n")
+    fn enter_parts(&mut self, out: &mut String) -> Result<(), AllocError> {
+        for name in &NAMES {
+            let answer = Answer(self.sheet.part());
+            writeln!(out, "part {name}: {answer}")?;
         }
+        Ok(())
     }
-}
 
-fn line(heap: Global, call: &str, answer: Result<(), Refusal>) -> Result<String, AllocError> {
-    match answer {
-        Ok(()) => format!(in heap; "{call}: held\n"),
-        Err(e) => {
-            let number = e.number();
-            format!(in heap; "{call}: refused {number}\n")
+    fn enter_texts(&mut self, out: &mut String) -> Result<(), AllocError> {
+        for (part, letters) in TEXTS {
+            let text = Quoted(letters);
+            let answer = Answer(self.text(part, letters).map(|()| "held"));
+            writeln!(out, "pattern {part} {text}: {answer}")?;
         }
+        Ok(())
     }
-}
 
-fn counts_line(heap: Global, sheet: &Sheet) -> Result<String, AllocError> {
-    let counts = sheet.counts();
-    let parts = counts.parts;
-    let patterns = counts.patterns;
-    let joins = counts.joins;
-    let states = counts.held.states;
-    let arcs = counts.held.arcs;
-    format!(in heap;
-        "held: {parts} parts, {patterns} patterns, {joins} joins, {states} state rows, {arcs} arc rows\n"
-    )
-}
-
-// The record of the parts.
-fn parts(heap: Global, bridge: &mut Bridge) -> Result<String, AllocError> {
-    let mut out = String::new(heap);
-    for name in &NAMES {
-        out.push_str(part_line(heap, name, bridge.sheet.part())?.as_str())?;
+    fn enter_joins(&mut self, out: &mut String) -> Result<(), AllocError> {
+        for join in JOINS {
+            let Join { whole, left, right } = join;
+            let answer = Answer(self.sheet.join(join).map(|()| "held"));
+            writeln!(out, "join {whole} = {left} + {right}: {answer}")?;
+        }
+        Ok(())
     }
-    Ok(out)
-}
 
-// The record of the patterns and the joins.
-fn limits(heap: Global, bridge: &mut Bridge) -> Result<String, AllocError> {
-    let mut out = String::new(heap);
-    let sign = bridge.text(ACKNOWLEDGEMENT, &[35]);
-    out.push_str(line(heap, "pattern 0 \"#\"", sign)?.as_str())?;
-    let number = bridge.text(NUMBER, &[49, 50, 46, 53]);
-    out.push_str(line(heap, "pattern 1 \"12.5\"", number)?.as_str())?;
-    let degrees = bridge.text(UNIT, &[176, 67]);
-    out.push_str(line(heap, "pattern 2 \"\\u{b0}C\"", degrees)?.as_str())?;
-    let nowhere = bridge.text(5, &[35]);
-    out.push_str(line(heap, "pattern 5 \"#\"", nowhere)?.as_str())?;
-    let long = bridge.text(REPLY, &[49, 50, 46, 53, 176, 67]);
-    out.push_str(line(heap, "pattern 4 \"12.5\\u{b0}C\"", long)?.as_str())?;
-    let temperature = bridge.sheet.join(joined(TEMPERATURE, NUMBER, UNIT));
-    out.push_str(line(heap, "join 3 = 1 + 2", temperature)?.as_str())?;
-    let reply = bridge
-        .sheet
-        .join(joined(REPLY, ACKNOWLEDGEMENT, TEMPERATURE));
-    out.push_str(line(heap, "join 4 = 0 + 3", reply)?.as_str())?;
-    let circle = bridge.sheet.join(joined(NUMBER, REPLY, UNIT));
-    out.push_str(line(heap, "join 1 = 4 + 2", circle)?.as_str())?;
-    Ok(out)
+    // Enters the sheet, and records each call and its answer.
+    fn enter(&mut self, out: &mut String) -> Result<(), AllocError> {
+        self.enter_parts(out)?;
+        self.enter_texts(out)?;
+        self.enter_joins(out)
+    }
+
+    fn record_counts(&self, out: &mut String) -> Result<(), AllocError> {
+        let Counts {
+            parts,
+            patterns,
+            joins,
+            held,
+        } = self.sheet.counts();
+        let Rows { states, arcs } = held;
+        writeln!(
+            out,
+            "held: {parts} parts, {patterns} patterns, {joins} joins, {states} state rows, {arcs} arc rows"
+        )
+    }
 }
 
 // The record of the calls and their answers.
 pub fn record(heap: Global) -> Result<String, AllocError> {
+    let mut out = String::new(heap);
     let mut bridge = Bridge::new();
-    let mut out = parts(heap, &mut bridge)?;
-    out.push_str(limits(heap, &mut bridge)?.as_str())?;
-    out.push_str(counts_line(heap, &bridge.sheet)?.as_str())?;
+    bridge.enter(&mut out)?;
+    bridge.record_counts(&mut out)?;
     bridge.sheet.clear();
-    out.push_str(counts_line(heap, &bridge.sheet)?.as_str())?;
+    bridge.record_counts(&mut out)?;
     Ok(out)
 }
 
-// The record of solving the sheet, once it is entered.
+// The record of solving the sheet, once it is entered, in larger tables.
 pub fn solved_record(heap: Global) -> Result<String, AllocError> {
     let mut bridge = Bridge::new();
-    let _ = parts(heap, &mut bridge)?;
-    let _ = limits(heap, &mut bridge)?;
-    bridge.solved(heap)
+    bridge.enter(&mut String::new(heap))?;
+    let mut states = table(heap, &bridge.states, State::default())?;
+    let mut arcs = table(heap, &bridge.arcs, spare_arc::<Text>())?;
+    solving::record::<Text>(
+        heap,
+        "bridge",
+        &bridge.sheet,
+        &NAMES,
+        &mut states,
+        &mut arcs,
+    )
 }

@@ -1,33 +1,56 @@
-// Lines of bytes, as words and as text.
-ghost use Rattle.std.specs.Prelude.{◌≡◌, ◌<◌, IfOk};
+// Lines of bytes, and letters as text.
+ghost use Rattle.std.specs.Prelude.{◌≡◌, ℕ, ◌<◌, ◌≢◌, [], length, get_or, IfOk, MatchOption};
+ghost use Rattle.std.specs.Iterator.{at_most};
 ghost use Rattle.gauges.specs.Replies.{Cut};
 
 use std::alloc::{AllocError, Global};
 use std::fmt;
 use std::fmt::Write;
 
+// Where the first line ends, if a line end follows it.
+fn line_end(bytes: &[u8]) -> Option<usize>
+    ensures finds { MatchOption result ((k : ℕ) → k < length bytes.now → get_or bytes.now k 0 ≢ 10)
+        (λ end. (end < length bytes.now) × (get_or bytes.now end 0 ≡ 10) × ((k : ℕ) → k < end → get_or bytes.now k 0 ≢ 10)) }
+{
+    bytes.iter().position(|b| *b == b'\n')
+}
+
 // Cuts off the first line; its line end belongs to neither part.
 pub fn cut(bytes: &[u8]) -> (&[u8], &[u8])
     ensures cuts { Cut bytes.now result.0.now result.1.now }
 {
-    for (i, b) in bytes.iter().enumerate() {
-        if *b == b'\n' {
-            let (line, rest) = bytes.split_at(i);
-            return (line, rest.split_at(1).1);
-        }
+    match line_end(bytes) {
+        Some(end) => (&bytes[..end], &bytes[end + 1..]),
+        None => (bytes, &[]),
     }
-    bytes.split_at(bytes.len())
+}
+
+// The lines of some bytes. The last one needs no line end.
+#[derive(Drop)]
+pub struct Lines<'a>(pub &'a [u8]);
+
+impl<'a> Iterator for Lines<'a> {
+    type Item = &'a [u8];
+
+    ghost remaining = { λ lines. at_most (length lines.0.now) };
+
+    ghost next_gives = { λ lines result rest. MatchOption result (lines.0.now ≡ []) (λ line. Cut lines.0.now line.now rest.0.now) };
+
+    fn next(&mut self) -> Option<&'a [u8]> {
+        if self.0.is_empty() {
+            return None;
+        }
+        let (line, rest) = cut(self.0);
+        self.0 = rest;
+        Some(line)
+    }
 }
 
 // The word of a line: each byte is a letter.
 pub fn letters(heap: Global, line: &[u8]) -> Result<Vec<u32>, AllocError>
     ensures same { IfOk result (λ v. v.items ≡ line.now) }
 {
-    let mut word = Vec::new(heap);
-    for b in line {
-        word.push(*b as u32)?;
-    }
-    Ok(word)
+    line.iter().map(|b| u32::from(*b)).collect(heap)
 }
 
 fn write_letter<W: fmt::Write>(f: &mut fmt::Formatter<W>, letter: u32) -> fmt::Result {
@@ -39,29 +62,15 @@ fn write_letter<W: fmt::Write>(f: &mut fmt::Formatter<W>, letter: u32) -> fmt::R
     }
 }
 
-// A word as it is printed: quoted, a quote doubled, every other letter outside 0x20 to 0x7e by its number.
+// Letters as they are printed: quoted, a quote doubled, every other letter outside 0x20 to 0x7e by its number.
 #[derive(Drop)]
-pub struct Word<'a>(pub &'a [u32]);
+pub struct Quoted<'a, T>(pub &'a [T]);
 
-impl fmt::Display for Word<'_> {
+impl<T: Copy + Into<u32>> fmt::Display for Quoted<'_, T> {
     fn fmt<W: fmt::Write>(&self, f: &mut fmt::Formatter<W>) -> fmt::Result {
         f.write_char('"')?;
         for letter in self.0 {
-            write_letter(f, *letter)?;
-        }
-        f.write_char('"')
-    }
-}
-
-// A reply as it is printed: the word of its bytes.
-#[derive(Drop)]
-pub struct Reply<'a>(pub &'a [u8]);
-
-impl fmt::Display for Reply<'_> {
-    fn fmt<W: fmt::Write>(&self, f: &mut fmt::Formatter<W>) -> fmt::Result {
-        f.write_char('"')?;
-        for b in self.0 {
-            write_letter(f, u32::from(*b))?;
+            write_letter(f, (*letter).into())?;
         }
         f.write_char('"')
     }

@@ -6,14 +6,17 @@
 mod bridge;
 mod lines;
 mod reply;
+mod rows;
 mod solving;
 mod weir;
 
-use build::{Place, Stop};
-use lines::Reply;
+use build::{Place, Rows, Stop};
+use lines::{Lines, Quoted};
 use reply::Replies;
 use std::alloc::{AllocError, Global};
 use std::env;
+use std::fmt;
+use std::fmt::Write;
 use std::io::Read;
 
 // What each pattern says of a reply.
@@ -25,38 +28,18 @@ struct Judged {
     met: bool,
 }
 
-// How many replies were read, and how many of them each pattern accepted.
-#[derive(Clone, Copy)]
-struct Tally {
-    read: usize,
-    wait: usize,
-    text: usize,
-    joined: usize,
-    met: usize,
-}
-
-impl Tally {
-    fn none() -> Tally {
-        Tally {
-            read: 0,
-            wait: 0,
-            text: 0,
-            joined: 0,
-            met: 0,
-        }
-    }
-
-    fn note(&mut self, judged: Judged) {
-        self.read = self.read.saturating_add(1);
-        self.wait = self.wait.saturating_add(judged.wait as usize);
-        self.text = self.text.saturating_add(judged.text as usize);
-        self.joined = self.joined.saturating_add(judged.joined as usize);
-        self.met = self.met.saturating_add(judged.met as usize);
-    }
-}
-
 fn yes_no(b: bool) -> &'static str {
     if b { "yes" } else { "no" }
+}
+
+impl fmt::Display for Judged {
+    fn fmt<W: fmt::Write>(&self, f: &mut fmt::Formatter<W>) -> fmt::Result {
+        let wait = yes_no(self.wait);
+        let text = yes_no(self.text);
+        let joined = yes_no(self.joined);
+        let met = yes_no(self.met);
+        write!(f, "wait {wait} text {text} joined {joined} met {met}")
+    }
 }
 
 fn judge(replies: &Replies, word: &[u32]) -> Judged {
@@ -68,46 +51,59 @@ fn judge(replies: &Replies, word: &[u32]) -> Judged {
     }
 }
 
-// The line of the record for one reply.
-fn line_of(heap: Global, line: &[u8], judged: Judged) -> Result<String, AllocError> {
-    let reply = Reply(line);
-    let wait = yes_no(judged.wait);
-    let text = yes_no(judged.text);
-    let joined = yes_no(judged.joined);
-    let met = yes_no(judged.met);
-    format!(in heap; "reply {reply} wait {wait} text {text} joined {joined} met {met}\n")
+// How many replies were read, and how many of them each pattern accepted.
+#[derive(Clone, Copy, Default)]
+struct Tally {
+    read: usize,
+    wait: usize,
+    text: usize,
+    joined: usize,
+    met: usize,
 }
 
-fn size_of(heap: Global, name: &str, p: Place) -> Result<String, AllocError> {
-    let states = p.count.states;
-    let arcs = p.count.arcs;
+impl Tally {
+    fn note(&mut self, judged: Judged) {
+        self.read = self.read.saturating_add(1);
+        self.wait = self.wait.saturating_add(usize::from(judged.wait));
+        self.text = self.text.saturating_add(usize::from(judged.text));
+        self.joined = self.joined.saturating_add(usize::from(judged.joined));
+        self.met = self.met.saturating_add(usize::from(judged.met));
+    }
+}
+
+impl fmt::Display for Tally {
+    fn fmt<W: fmt::Write>(&self, f: &mut fmt::Formatter<W>) -> fmt::Result {
+        let Tally {
+            read,
+            wait,
+            text,
+            joined,
+            met,
+        } = *self;
+        write!(
+            f,
+            "{read} read, accepted by the wait {wait}, the text {text}, the join {joined}, both {met}"
+        )
+    }
+}
+
+fn size_line(heap: Global, name: &str, place: Place) -> Result<String, AllocError> {
+    let Rows { states, arcs } = place.count;
     format!(in heap; "{name}: {states} states, {arcs} arcs\n")
 }
 
 // A line for each reply, and what they come to.
 fn replies_of(heap: Global, replies: &Replies, input: &[u8]) -> Result<String, AllocError> {
     let mut out = String::new(heap);
-    let mut tally = Tally::none();
-    let mut rest = input;
-    while !rest.is_empty() {
-        let (line, after) = lines::cut(rest);
+    let mut tally = Tally::default();
+    for line in Lines(input) {
         let word = lines::letters(heap, line)?;
         let judged = judge(replies, &word);
         tally.note(judged);
-        out.push_str(line_of(heap, line, judged)?.as_str())?;
-        rest = after;
+        let reply = Quoted(line);
+        writeln!(out, "reply {reply} {judged}")?;
     }
-    let Tally {
-        read,
-        wait,
-        text,
-        joined,
-        met,
-    } = tally;
-    let last = format!(in heap;
-        "{read} read, accepted by the wait {wait}, the text {text}, the join {joined}, both {met}\n"
-    )?;
-    out.push_str(last.as_str())?;
+    writeln!(out, "{tally}")?;
     Ok(out)
 }
 
@@ -116,8 +112,8 @@ fn record(heap: Global, input: &[u8]) -> Result<String, AllocError> {
     let Ok(replies) = Replies::new() else {
         return String::from_str(heap, "out of room\n");
     };
-    let mut out = size_of(heap, "acknowledgement and level joined", replies.joined)?;
-    out.push_str(size_of(heap, "met with the wait", replies.met)?.as_str())?;
+    let mut out = size_line(heap, "acknowledgement and level joined", replies.joined)?;
+    out.push_str(size_line(heap, "met with the wait", replies.met)?.as_str())?;
     out.push_str(replies_of(heap, &replies, input)?.as_str())?;
     Ok(out)
 }
@@ -142,10 +138,11 @@ fn solve_sheets(rt: &HostRuntime) -> anyhow::Result<()> {
 
 // Whether the first word of the command line asks for it. A command line that cannot be read asks for nothing.
 fn is_asked_to_solve(rt: &HostRuntime) -> bool {
-    match env::args(rt) {
-        Ok(mut words) => words.nth(1).is_some_and(|word| word.as_str() == "solve"),
-        Err(_) => false,
-    }
+    env::args(rt).is_ok_and(|mut words| {
+        words
+            .nth(1)
+            .is_some_and(|word| word.as_str() == "solve")
+    })
 }
 
 fn run(rt: &HostRuntime) -> anyhow::Result<()> {

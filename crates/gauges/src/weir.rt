@@ -1,25 +1,20 @@
 // The weir station: what its logger waits for, the acknowledgement that it may send, and the level that it should.
 ghost use Rattle.std.specs.Prelude.{◌≡◌, [], ◌∷◌, Decides};
+ghost use Rattle.alphabet.specs.Modem.{modem};
+ghost use Rattle.automaton.specs.Automaton.{Accepts};
+ghost use Rattle.giver.specs.Told.{Sound};
 ghost use Rattle.gauges.specs.Replies.{Awaited, sign_states, sign_arcs, wait_states, wait_arcs};
 
+use crate::rows::state;
 use alphabet::modem::{Modem, ModemLabel};
 use alphabet::{Alphabet, RangedAlphabet};
-use automaton::{Arc, Marks, State};
+use automaton::{Arc, State};
+use giver::Giver;
 use giver::accepts::accepts;
 use giver::fixed::FixedText;
 use giver::table::Table;
 
 pub const LEVEL: [u32; 4] = [52, 46, 50, 49];
-
-pub fn state(initial: bool, accepting: bool) -> State
-    ensures marked { result ≡ record { marks = record { initial = initial; accepting = accepting }; left = 0; right = 0 } }
-{
-    State {
-        marks: Marks { initial, accepting },
-        left: 0,
-        right: 0,
-    }
-}
 
 // Nothing, or the letter '#'.
 pub fn sign_states() -> [State; 2]
@@ -60,29 +55,27 @@ pub fn wait_arcs() -> [Arc<ModemLabel>; 2]
     [digit, anything]
 }
 
+// Whether the automaton accepts the word; false where it is refused.
+pub fn takes<G: Giver<Modem>>(giver: &G, word: &[u32]) -> bool
+    ensures decides { Sound (G.Giver.automaton giver.now) → Decides result (Accepts modem.admits (G.Giver.automaton giver.now) word.now) }
+{
+    accepts::<Modem, G>(giver, word).unwrap_or(false)
+}
+
 // The wait: a digit, then anything.
 pub fn awaits(reply: &[u32]) -> bool
     ensures decides { Decides result (Awaited reply.now) }
 {
-    let states = wait_states();
-    let arcs = wait_arcs();
-    let wait = Table {
-        states: &states,
-        arcs: &arcs,
+    let wait: Table<'_, Modem> = Table {
+        states: &wait_states(),
+        arcs: &wait_arcs(),
     };
-    match accepts::<Modem, Table<'_, Modem>>(&wait, reply) {
-        Ok(accepted) => accepted,
-        Err(_) => false,
-    }
+    takes(&wait, reply)
 }
 
 // Whether the reply is the text "4.21".
 pub fn is_level(reply: &[u32]) -> bool
     ensures decides { Decides result (reply.now ≡ 52 ∷ 46 ∷ 50 ∷ 49 ∷ []) }
 {
-    let level = FixedText::new::<Modem>(&LEVEL);
-    match accepts::<Modem, FixedText<'_>>(&level, reply) {
-        Ok(accepted) => accepted,
-        Err(_) => false,
-    }
+    takes(&FixedText::new::<Modem>(&LEVEL), reply)
 }

@@ -1,4 +1,5 @@
 pub mod Course
 pub mod Meaning
 pub mod Problem
+pub mod Shown
 pub mod Verdicts

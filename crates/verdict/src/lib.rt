@@ -3,6 +3,8 @@
 
 use build::Rows;
 
+mod shown;
+
 // A table that does not suffice.
 #[derive(Clone, Copy, Debug, PartialEq, Eq)]
 pub enum Table {

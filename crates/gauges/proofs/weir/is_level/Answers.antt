@@ -1,10 +1,9 @@
-use Rattle.std.proofs.Common.{◌≡◌, length, ap, arith}
+use Rattle.std.proofs.Common.{arith, rules}
 use Rattle.alphabet.specs.Modem.{marks_from_to}
-use Rattle.giver.proofs.Spelling.{chain_sound, never_refused}
+use Rattle.giver.proofs.Spelling.{chain_sound}
 use Rattle.gauges.proofs.weir.is_level.Goals as goal
 
-pub returns-in-Err : goal.returns-in-Err
-returns-in-Err c =
-    let text = c.new-level.result.letters.now in
-    let four : length text ≡ 4 = ap length c.new-level.ensures.holds in
-    absurd (never_refused _ _ (chain_sound marks_from_to text (omega arith)) c.in-Err.ensures.decides_acceptance)
+pub returns : goal.returns
+returns c =
+    let told = c.takes.ensures.decides (chain_sound marks_from_to _ (search arith)) in
+    search (rules, told)

@@ -1,0 +1,36 @@
+// The rows of which the stations' automata are made, and tables of them.
+ghost use Rattle.std.specs.Prelude.{◌≡◌, ◌-◌, ◌++◌, length, take, replicate, IfOk};
+
+use alphabet::Alphabet;
+use automaton::{Arc, Marks, State};
+use std::alloc::{AllocError, Global};
+
+// So many rows has a table in which builds are made.
+pub const ROWS: usize = 64;
+
+pub fn state(initial: bool, accepting: bool) -> State
+    ensures marked { result ≡ record { marks = record { initial = initial; accepting = accepting }; left = 0; right = 0 } }
+{
+    State::from(Marks { initial, accepting })
+}
+
+// What fills a table of arcs behind the rows in use.
+pub fn spare_arc<A: Alphabet>() -> Arc<A::Label>
+    ensures fills { result ≡ record { from = 0; label = A.Alphabet.labels.full; to = 0 } }
+{
+    Arc {
+        from: 0,
+        label: A::full(),
+        to: 0,
+    }
+}
+
+// A table of 64 rows that begins with these.
+pub fn table<T: Copy + Drop>(heap: Global, rows: &[T], spare: T) -> Result<Vec<T>, AllocError>
+    ensures fills { IfOk result (λ v. v.items ≡ take 64 rows.now ++ replicate (64 - length rows.now) spare) }
+{
+    let mut table = Vec::new(heap);
+    table.extend_from_slice(rows)?;
+    table.resize(ROWS, spare)?;
+    Ok(table)
+}
