@@ -33,8 +33,6 @@ use Rattle.verdict.proofs.Unique.{given_unique}
 use Rattle.words.specs.Words.{Renumbered}
 use Rattle.words.proofs.Renumbering.{at_renumbered, length-renumbered, stands_renumbered}
 use Rattle.solve.specs.declared.Row.{Row}
-use Rattle.solve.specs.declared.course.Halt.{Halt}
-use Rattle.solve.specs.declared.course.Halt.TheVariants.{Full, Empty}
 use Rattle.solve.specs.Builds.{room}
 use Rattle.solve.specs.Finishing.{Completed, Stopped}
 use Rattle.solve.specs.Judging.{Ready, Filled, Judges}
@@ -78,8 +76,8 @@ word_pieces words f m n =
 
 -- the builds ended early
 module _ {L : Type 0} (a : Labels L) (laws : Lawful a) (v : View) (states : List State) (arcs : List (Arc L)) (states' : List State) (arcs' : List (Arc L)) (report : List Row) (words : List ℕ) where
-  pub stopped_answered : (p : ℕ) (x : Halt) → Stopped a v states arcs states' arcs' (record { part = p; halt = x }) → Answered a v states arcs states' arcs' report report words words (record { verdict = stop_verdict p x; totals = totals v.held (used_of x) })
-  stopped_answered p (Full t used) h = record {
+  pub stopped_answered : (p : ℕ) (x : Break) → Stopped a v states arcs states' arcs' (record { part = p; halt = x }) → Answered a v states arcs states' arcs' report report words words (record { verdict = stop_verdict p x; totals = totals v.held (used_of x) })
+  stopped_answered p (full_at t used) h = record {
     given = record { outcome = _; course = h.course; judged = refl };
     states_kept = h.states_kept;
     arcs_kept = h.arcs_kept;
@@ -92,7 +90,7 @@ module _ {L : Type 0} (a : Labels L) (laws : Lawful a) (v : View) (states : List
     no_words = tt;
     decided = λ _. tt;
   }
-  stopped_answered p (Empty used) h = record {
+  stopped_answered p (empty_at used) h = record {
     given = record { outcome = _; course = h.course; judged = refl };
     states_kept = h.states_kept;
     arcs_kept = h.arcs_kept;

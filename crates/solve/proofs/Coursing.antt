@@ -19,10 +19,7 @@ use Rattle.verdict.specs.Course.{Finished, Due, Next, pattern_operands, join_ope
 use Rattle.verdict.specs.Problem.{Problem, read, problem}
 use Rattle.verdict.proofs.Chains.{none_due}
 use Rattle.verdict.proofs.Finding.{find_map_found, has_found}
-use Rattle.solve.specs.declared.course.Halt.{Halt}
-use Rattle.solve.specs.declared.course.Halt.TheVariants.{Full, Empty}
-use Rattle.solve.specs.declared.course.Work.{Work}
-use Rattle.solve.specs.Builds.{room, AllStand, halted, PartBuilt}
+use Rattle.solve.specs.Builds.{Work, Break, full_at, empty_at, room, AllStand, halted, PartBuilt}
 use Rattle.solve.specs.Finishing.{Built, Completed, Stopped, outcome_of}
 use Rattle.solve.specs.Parts.{Among, Open, done, dones}
 use Rattle.solve.proofs.Going.{same_room, stands_same, stands_more}
@@ -143,7 +140,7 @@ module _ {L : Type 0} (a : Labels L) (v : View) (states₀ : List State) (arcs�
           subst (λ ps. Builds a (room states₀ arcs₀) (pattern_operands ps p ++ join_operands (dones states arcs hs) v.joins p) used e) (reads_same v.held states₀ states arcs₀ arcs u.built.states_kept u.built.arcs_kept v.patterns held) one
 
       module _ (states' : List State) (arcs' : List (Arc L)) where
-        pub stopped : (x : Halt) → PartBuilt a (pattern_operands (map (read states arcs) v.patterns) p ++ join_operands (dones states arcs hs) v.joins p) used states arcs states' arcs' (Err x) → Stopped a v states₀ arcs₀ states' arcs' (record { part = p; halt = x })
+        pub stopped : (x : Break) → PartBuilt a (pattern_operands (map (read states arcs) v.patterns) p ++ join_operands (dones states arcs hs) v.joins p) used states arcs states' arcs' (Err x) → Stopped a v states₀ arcs₀ states' arcs' (record { part = p; halt = x })
         stopped x b = record {
           finished = dones states arcs hs;
           course = by x b.builds;
@@ -151,9 +148,9 @@ module _ {L : Type 0} (a : Labels L) (v : View) (states₀ : List State) (arcs�
           arcs_kept = kept_more v.held.arcs arcs₀ arcs arcs' u.built.arcs_kept (kept_less used.arcs v.held.arcs arcs arcs' u.built.more_arcs b.arcs_kept);
         }
           where
-            by : (x : Halt) → Builds a (room states arcs) (pattern_operands (map (read states arcs) v.patterns) p ++ join_operands (dones states arcs hs) v.joins p) used (halted x) → Course a (room states₀ arcs₀) s [] v.held (outcome_of p x (dones states arcs hs))
-            by (Full t r) b = u.leads _ (stops next (builds_here _ b))
-            by (Empty r) b = u.leads _ (empties next (builds_here _ b))
+            by : (x : Break) → Builds a (room states arcs) (pattern_operands (map (read states arcs) v.patterns) p ++ join_operands (dones states arcs hs) v.joins p) used (halted x) → Course a (room states₀ arcs₀) s [] v.held (outcome_of p x (dones states arcs hs))
+            by (full_at t r) b = u.leads _ (stops next (builds_here _ b))
+            by (empty_at r) b = u.leads _ (empties next (builds_here _ b))
 
         pub underway_more : (w : Work) → PartBuilt a (pattern_operands (map (read states arcs) v.patterns) p ++ join_operands (dones states arcs hs) v.joins p) used states arcs states' arcs' (Ok w) → Underway a v states₀ arcs₀ states' arcs' (hs ++ record { part = p; place = w.running } ∷ []) w.used
         underway_more w b =

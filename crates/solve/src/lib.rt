@@ -5,18 +5,18 @@ ghost use Rattle.std.specs.Prelude.{◌≡◌, length};
 ghost use Rattle.build.specs.Tables.{Kept};
 ghost use Rattle.sheet.specs.Calls.{view};
 ghost use Rattle.solve.specs.Builds.{room};
-ghost use Rattle.solve.specs.Solving.{SolveAnswer, OnlyAnswer, LeavesAll, Told, Reported, Reports, ReportsExactly, WhenImpossible, WhenPossible, WhenUnknown, placed, Lays, NoWords, Decided, stop_verdict, used_of};
+ghost use Rattle.solve.specs.Solving.{SolveAnswer, OnlyAnswer, LeavesAll, Told, Reported, Reports, ReportsExactly, WhenImpossible, WhenPossible, WhenUnknown, placed, Lays, NoWords, Decided};
 ghost use Rattle.verdict.specs.Meaning.{CoursesExact, Unsatisfiable};
 ghost use Rattle.verdict.specs.Problem.{problem, Satisfies};
 ghost use Rattle.verdict.specs.Verdicts.{SingleUse, totals as totals_of};
 
-use crate::course::{Ended, Halt, finish_all};
 use crate::judge::judge;
+use crate::tables::Tables;
 use alphabet::Alphabet;
 use automaton::{Arc, State};
 use build::{Place, Rows};
 use sheet::{Refusal, Sheet};
-use verdict::{Solved, Verdict};
+use verdict::Solved;
 
 mod course;
 mod judge;
@@ -25,6 +25,7 @@ mod parts;
 mod pieces;
 mod rooting;
 mod roots;
+mod tables;
 
 // Where a word lies in the words table.
 #[derive(Clone, Copy, Debug, PartialEq, Eq, Default)]
@@ -47,23 +48,6 @@ fn totals(held: Rows, used: Rows) -> Rows
     Rows {
         states: used.states.saturating_sub(held.states),
         arcs: used.arcs.saturating_sub(held.arcs),
-    }
-}
-
-// The verdict where the builds of a part end early.
-fn stopped(held: Rows, ended: Ended) -> Solved
-    ensures names { result ≡ record { verdict = stop_verdict ended.part ended.halt; totals = totals_of held (used_of ended.halt) } }
-{
-    let part = ended.part;
-    match ended.halt {
-        Halt::Full { table, used } => Solved {
-            verdict: Verdict::OutOfRoom { table, part },
-            totals: totals(held, used),
-        },
-        Halt::Empty { used } => Solved {
-            verdict: Verdict::Impossible { part },
-            totals: totals(held, used),
-        },
     }
 }
 
@@ -96,23 +80,22 @@ pub fn solve<A: Alphabet>(
     if report.len() < counts.parts {
         return Err(Refusal::ShortReport);
     }
-    match finish_all::<A>(sheet, states, arcs) {
-        Ok(finished) => {
-            let verdict = judge::<A>(
-                states,
-                arcs,
-                finished.used,
-                sheet.joins(),
-                counts.parts,
-                &finished.parts[..finished.count],
-                report,
-                words,
-            );
-            Ok(Solved {
-                verdict,
-                totals: totals(counts.held, finished.used),
-            })
-        }
-        Err(ended) => Ok(stopped(counts.held, ended)),
-    }
+    let mut tables = Tables::<A>::new(states, arcs, counts.held);
+    let verdict = match tables.finish_all(sheet) {
+        Ok(finished) => judge::<A>(
+            tables.states,
+            tables.arcs,
+            tables.used,
+            sheet.joins(),
+            counts.parts,
+            &finished,
+            report,
+            words,
+        ),
+        Err(verdict) => verdict,
+    };
+    Ok(Solved {
+        verdict,
+        totals: totals(counts.held, tables.used),
+    })
 }
