@@ -22,7 +22,7 @@ use Rattle.verdict.specs.declared.Table.{Table}
 use Rattle.verdict.specs.Course.{Operand, pattern, join, Ending, final, empty, Passes, Makes, plus, Alive, Dead, Meets, all_met, product_passes, product_dead, product_met, concat_passes, concat_built, Builds, all_pass, all_built}
 use Rattle.solve.specs.declared.tables.Halt.{Halt}
 use Rattle.solve.specs.declared.tables.Halt.TheVariants.{Full}
-use Rattle.solve.specs.Builds.{Work, Break, full_at, empty_at, with_rows, room, halted, Added, Adds, Works, Grown, Leads, Behind, OkThen, ended, Went, PartBuilt}
+use Rattle.solve.specs.Builds.{Work, Break, full_at, empty_at, break_of, with_rows, room, halted, Added, Adds, Works, Grown, Leads, Behind, OkThen, ended, Went, PartBuilt}
 
 -- how many rows an automaton in the tables has
 module _ {L : Type 0} (states : List State) (arcs : List (Arc L)) (p : Place) where
@@ -169,17 +169,22 @@ module _ {L : Type 0} (a : Labels L) (w : Work) (states : List State) (arcs : Li
       }
 
   -- an end, with the operands that are left, as `?` hands it on
-  pub went_broken : {os : List (Operand L)} (os' : List (Operand L)) {all : List (Operand L)} → os ++ os' ≡ all → {states₁ : List State} {arcs₁ : List (Arc L)} {x : Break} (r : Result Work Break) → IsErrAnd r (λ y. y ≡ x) → Went a os w states arcs states₁ arcs₁ (Err x) → Went a all w states arcs states₁ arcs₁ r
-  went_broken {os} os' {all} whole {states₁} {arcs₁} {x} r by h =
+  pub went_broken : {os : List (Operand L)} (os' : List (Operand L)) {all : List (Operand L)} → os ++ os' ≡ all → {states₁ : List State} {arcs₁ : List (Arc L)} (used' : Rows) (x : Halt) (r : Result Place Halt) → IsErrAnd r (λ y. y ≡ x) →
+      Went a os w states arcs states₁ arcs₁ (Err (break_of used' x)) → Went a all w states arcs states₁ arcs₁ (with_rows used' r)
+  went_broken {os} os' {all} whole {states₁} {arcs₁} used' x r by h =
       let is = err_from_is_err_and r by in
-      subst (Went a all w states arcs states₁ arcs₁) (sym (is.1 ∙ ap Err is.2))
+      subst (λ y. Went a all w states arcs states₁ arcs₁ (with_rows used' y)) (sym (is.1 ∙ ap Err is.2))
       (record {
-        leads = λ rest. subst (λ l. Meets a (room states arcs) l (at states arcs w.running) w.used (halted x)) (sym (append_assoc os os' rest) ∙ ap (λ l. l ++ rest) whole) (h.leads (os' ++ rest));
+        leads = λ rest. subst (λ l. Meets a (room states arcs) l (at states arcs w.running) w.used (halted (break_of used' x))) (sym (append_assoc os os' rest) ∙ ap (λ l. l ++ rest) whole) (h.leads (os' ++ rest));
         grown = tt;
         behind = tt;
         states_kept = h.states_kept;
         arcs_kept = h.arcs_kept;
       })
+
+  -- what stood among the rows in use still does
+  pub went_stands : {os : List (Operand L)} {states₁ : List State} {arcs₁ : List (Arc L)} {w₁ : Work} → Went a os w states arcs states₁ arcs₁ (Ok w₁) → (p : Place) → Stands states arcs w.used p → Stands states₁ arcs₁ w₁.used p
+  went_stands {states₁ = states₁} {arcs₁ = arcs₁} {w₁ = w₁} h p stands = stands_more states₁ arcs₁ w.used w₁.used p h.grown.more_states h.grown.more_arcs (stands_same w.used states states₁ arcs arcs₁ h.states_kept h.arcs_kept p stands)
 
 -- one operand
 module _ {L : Type 0} (a : Labels L) (w : Work) (states states' : List State) (arcs arcs' : List (Arc L)) (ks : Kept w.used.states states states') (ka : Kept w.used.arcs arcs arcs') where
@@ -330,3 +335,9 @@ module _ {L : Type 0} (a : Labels L) (used : Rows) (states : List State) (arcs :
 
       pub joins_met : (p : Place) → Lies used running → Adds a (concats a y z) states arcs used states' arcs' used' (Ok p) → {states₂ : List State} {arcs₂ : List (Arc L)} {r : Result Work Break} → Went a (pattern (at states' arcs' p) ∷ []) (record { used = used'; running = running }) states' arcs' states₂ arcs₂ r → Went a (join y z ∷ []) work states arcs states₂ arcs₂ r
       joins_met p lies h went = joined_met a work states states' arcs arcs' h.states_kept h.arcs_kept y z lies p h.answers.built used' h.answers.states h.answers.arcs went
+
+  pub parts_full : (os : List (Operand L)) (t : Table) (r : Result Place Halt) → IsErrAnd r (λ y. y ≡ Full t) → Adds a (all_words a) states arcs used states' arcs' used' (Err t) → PartBuilt a os used states arcs states' arcs' (with_rows used' r)
+  parts_full os t r by h = handed_on (PartBuilt a os used states arcs states' arcs') t r by h.answers.1 (part_full a used states states' arcs arcs' h.states_kept h.arcs_kept os t h.answers.0)
+
+  pub parts_met : {os : List (Operand L)} (p : Place) → Adds a (all_words a) states arcs used states' arcs' used' (Ok p) → {states₂ : List State} {arcs₂ : List (Arc L)} {r : Result Work Break} → Went a os (record { used = used'; running = p }) states' arcs' states₂ arcs₂ r → PartBuilt a os used states arcs states₂ arcs₂ r
+  parts_met p h went = part_met a used states states' arcs arcs' h.states_kept h.arcs_kept p h.answers.built used' h.answers.states h.answers.arcs went

@@ -33,11 +33,14 @@ pub data Break : Type 0 where
   full_at : Table → Rows → Break
   empty_at : Rows → Break
 
+abbrev pub break_of : Rows → Halt → Break
+break_of used (Full t) = full_at t used
+break_of used Empty = empty_at used
+
 -- what the code answers, with the rows in use then
 abbrev pub with_rows : Rows → Result Place Halt → Result Work Break
 with_rows used (Ok p) = Ok (record { used = used; running = p })
-with_rows used (Err (Full t)) = Err (full_at t used)
-with_rows used (Err Empty) = Err (empty_at used)
+with_rows used (Err x) = Err (break_of used x)
 
 -- the running result stands among the rows in use
 pub record Works {L : Type 0} (states : List State) (arcs : List (Arc L)) (w : Work) : Type 0 where

@@ -15,7 +15,7 @@ use Rattle.verdict.specs.declared.Verdict.{Verdict}
 use Rattle.verdict.specs.declared.Verdict.TheVariants.{OutOfRoom, Impossible}
 use Rattle.solve.specs.declared.tables.Halt.{Halt}
 use Rattle.solve.specs.declared.tables.Halt.TheVariants.{Full, Empty}
-use Rattle.solve.specs.Builds.{Break, full_at, empty_at, room, AllStand}
+use Rattle.solve.specs.Builds.{Break, full_at, empty_at, break_of, room, AllStand}
 use Rattle.solve.specs.Parts.{Among, dones}
 
 -- the finished parts have their final results among the rows in use, behind the held ones
@@ -42,10 +42,6 @@ outcome_of p (empty_at used) ds = no_word p ds used
 abbrev pub stop_verdict : ℕ → Halt → Verdict
 stop_verdict p (Full t) = OutOfRoom t p
 stop_verdict p Empty = Impossible p
-
-abbrev pub break_of : Rows → Halt → Break
-break_of used (Full t) = full_at t used
-break_of used Empty = empty_at used
 
 -- the builds ended at a part
 pub record Stopped {L : Type 0} (a : Labels L) (v : View) (states₀ : List State) (arcs₀ : List (Arc L)) (states : List State) (arcs : List (Arc L)) (used : Rows) (x : Verdict) : Type 0 where

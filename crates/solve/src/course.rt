@@ -14,7 +14,8 @@ use crate::parts::{next, place_of};
 use crate::tables::{Halt, Tables};
 use alphabet::Alphabet;
 use arrayvec::ArrayVec;
-use build::Place;
+use automaton::{Arc, State};
+use build::{Place, Rows};
 use sheet::{Held, Join, MAX_PARTS, Sheet};
 use verdict::Verdict;
 
@@ -172,4 +173,18 @@ impl<A: Alphabet> Tables<'_, '_, A> {
         }
         Ok(finished)
     }
+}
+
+// Builds the final results of all parts behind the held rows. Answers the rows in use then, and where the results lie.
+pub fn build_all<A: Alphabet>(
+    sheet: &Sheet,
+    states: &mut [State],
+    arcs: &mut [Arc<A::Label>],
+) -> (Rows, Result<ArrayVec<Held, MAX_PARTS>, Verdict>)
+    requires whole { Whole (view sheet.now).patterns (view sheet.now).held states.old arcs.old }
+    ensures ends { Ends A.Alphabet.labels (view sheet.now) states.old arcs.old states.new arcs.new result.0 result.1 }
+{
+    let mut tables = Tables::<A>::new(states, arcs, sheet.counts().held);
+    let ended = tables.finish_all(sheet);
+    (tables.used, ended)
 }

@@ -10,8 +10,8 @@ ghost use Rattle.verdict.specs.Meaning.{CoursesExact, Unsatisfiable};
 ghost use Rattle.verdict.specs.Problem.{problem, Satisfies};
 ghost use Rattle.verdict.specs.Verdicts.{SingleUse, totals as totals_of};
 
+use crate::course::build_all;
 use crate::judge::judge;
-use crate::tables::Tables;
 use alphabet::Alphabet;
 use automaton::{Arc, State};
 use build::{Place, Rows};
@@ -80,22 +80,22 @@ pub fn solve<A: Alphabet>(
     if report.len() < counts.parts {
         return Err(Refusal::ShortReport);
     }
-    let mut tables = Tables::<A>::new(states, arcs, counts.held);
-    let verdict = match tables.finish_all(sheet) {
-        Ok(finished) => judge::<A>(
-            tables.states,
-            tables.arcs,
-            tables.used,
-            sheet.joins(),
-            counts.parts,
-            &finished,
-            report,
-            words,
-        ),
-        Err(verdict) => verdict,
-    };
-    Ok(Solved {
-        verdict,
-        totals: totals(counts.held, tables.used),
-    })
+    let (used, ended) = build_all::<A>(sheet, states, arcs);
+    let totals = totals(counts.held, used);
+    match ended {
+        Ok(finished) => {
+            let verdict = judge::<A>(
+                states,
+                arcs,
+                used,
+                sheet.joins(),
+                counts.parts,
+                &finished,
+                report,
+                words,
+            );
+            Ok(Solved { verdict, totals })
+        }
+        Err(verdict) => Ok(Solved { verdict, totals }),
+    }
 }

@@ -1,7 +1,7 @@
-use Rattle.std.proofs.Common.{◌≡◌, ℕ, List, length, take, sym, refl, ap, ◌∙◌, subst, inl, inr, arith}
-use Rattle.std.proofs.lemmas.Bool.Decides.{not_from_Decides}
+use Rattle.std.proofs.Common.{◌≡◌, ℕ, List, length, sym, refl, ap, ◌∙◌, subst, arith}
 use Rattle.build.specs.declared.Rows.{Rows}
-use Rattle.build.proofs.Keeping.{kept_none}
+use Rattle.sheet.specs.declared.Counts.{Counts}
+use Rattle.sheet.specs.declared.Held.{Held}
 use Rattle.sheet.specs.declared.Join.{Join}
 use Rattle.sheet.specs.Calls.{view}
 use Rattle.sheet.proofs.Invariants.{few_parts, few_joins, for_parts, known, acyclic}
@@ -10,146 +10,148 @@ use Rattle.verdict.specs.Problem.{problem}
 use Rattle.verdict.specs.Verdicts.{totals}
 use Rattle.verdict.proofs.Exactness.{courses_exact}
 use Rattle.solve.specs.Builds.{room}
+use Rattle.solve.specs.Finishing.{Completed, Stopped, Ends}
 use Rattle.solve.specs.Judging.{Joined, Ready, Judges}
-use Rattle.solve.specs.Solving.{stop_verdict, used_of}
 use Rattle.solve.proofs.Answering.{Answered, stopped_answered, ready, judged_answered, only}
+use Rattle.solve.proofs.solve.Given as given
 use Rattle.solve.proofs.solve.Goals as goal
+use Rattle.solve.proofs.solve.Goals.{After-totals-totals, In-Ok, In-Err, After-judge-verdict}
 
-pub returns-then-not-is_whole : goal.returns-then-not-is_whole
-returns-then-not-is_whole g c =
-    let v = view c.args.sheet.now in
-    let s = c.args.states.now in
-    let e = c.args.arcs.now in
-    record {
-      answers = inl (refl, not_from_Decides c.is_whole.result c.is_whole.ensures.decides c.if-not-is_whole.true);
-      only_answer = tt;
-      keeps_held_states = kept_none v.held.states s;
-      keeps_held_arcs = kept_none v.held.arcs e;
-      leaves = (refl, refl, refl, refl);
-      reports = tt;
-      reports_exactly = tt;
-      courses_are_exact = courses_exact g.A.Alphabet.labels g.met.A.Alphabet.lawful (room s e) (problem v s e);
-      impossible_means_no_words = tt;
-      possible_words_satisfy = tt;
-      lays_words = tt;
-      unknown_leaves_word_fields_empty = tt;
-      decides_single_use = tt;
-    }
+pub returns-then-not-is_whole-clause-courses_are_exact : goal.returns-then-not-is_whole-clause-courses_are_exact
+returns-then-not-is_whole-clause-courses_are_exact g c = courses_exact g.A.Alphabet.labels g.met.A.Alphabet.lawful (room c.args.states.now c.args.arcs.now) (problem (view c.args.sheet.now) c.args.states.now c.args.arcs.now)
 
-pub returns-then-report-counts : goal.returns-then-report-counts
-returns-then-report-counts g c =
-    let v = view c.args.sheet.now in
-    let s = c.args.states.now in
-    let e = c.args.arcs.now in
-    record {
-      answers = inr (c.if-not-is_whole.ensures.decides.0 refl, inl (refl, λ fits. omega (arith, fits, c.if-report-counts.true, ap (λ x. x.parts) c.counts-counts.ensures.counted)));
-      only_answer = tt;
-      keeps_held_states = kept_none v.held.states s;
-      keeps_held_arcs = kept_none v.held.arcs e;
-      leaves = (refl, refl, refl, refl);
-      reports = tt;
-      reports_exactly = tt;
-      courses_are_exact = courses_exact g.A.Alphabet.labels g.met.A.Alphabet.lawful (room s e) (problem v s e);
-      impossible_means_no_words = tt;
-      possible_words_satisfy = tt;
-      lays_words = tt;
-      unknown_leaves_word_fields_empty = tt;
-      decides_single_use = tt;
-    }
+pub returns-then-report-counts-clause-courses_are_exact : goal.returns-then-report-counts-clause-courses_are_exact
+returns-then-report-counts-clause-courses_are_exact g c = courses_exact g.A.Alphabet.labels g.met.A.Alphabet.lawful (room c.args.states.now c.args.arcs.now) (problem (view c.args.sheet.now) c.args.states.now c.args.arcs.now)
+
+-- the totals, of the sheet's held rows
+totals_are : (g : given.Over) (c : After-totals-totals g) → totals (view c.args.sheet.now).held c.build_all-ended.result.0 ≡ c.totals-totals.result
+totals_are g c = sym (c.totals-totals.ensures.counts ∙ ap (λ (x : Counts). totals x.held c.build_all-ended.result.0) c.counts-counts.ensures.counted)
+
+-- all parts are finished
+finished : (g : given.Over) (c : In-Ok g) → let t = c.build_all-ended in Completed g.A.Alphabet.labels (view c.args.sheet.now) c.args.states.now c.args.arcs.now t.new.states t.new.arcs c.in-Ok.finished.items t.result.0
+finished g c =
+    let t = c.build_all-ended in
+    subst (Ends g.A.Alphabet.labels (view c.args.sheet.now) c.args.states.now c.args.arcs.now t.new.states t.new.arcs t.result.0) c.in-Ok.is t.ensures.ends
 
 pub judge-verdict-requires : goal.judge-verdict-requires
 judge-verdict-requires g c =
     let a = g.A.Alphabet.labels in
     let sheet = c.args.sheet.now in
     let v = view sheet in
-    let hs = take c.in-Ok.finished.count c.in-Ok.finished.parts in
-    let s = c.finish_all.new.states in
-    let e = c.finish_all.new.arcs in
-    let used = c.in-Ok.finished.used in
+    let t = c.build_all-ended in
+    let n = c.counts-counts.result.parts in
     let counted = ap (λ x. x.parts) c.counts-counts.ensures.counted in
-    let now = ready a g.met.A.Alphabet.lawful v (known sheet) (for_parts sheet) c.args.states.now c.args.arcs.now s e hs used c.in-Ok.ensures.ends.0 in
-    let one = subst (λ (n : ℕ). Ready a.admits s e used n v.joins hs) (sym counted) now in
+    let now = ready a g.met.A.Alphabet.lawful v (known sheet) (for_parts sheet) c.args.states.now c.args.arcs.now t.new.states t.new.arcs c.in-Ok.finished.items t.result.0 (finished g (goal.at.judge-verdict-requires g c).In-Ok) in
     let joined : Joined v.parts v.joins = record { few_parts = few_parts sheet; few_joins = few_joins sheet; known = known sheet; acyclic = acyclic sheet } in
-    let two = subst (λ (n : ℕ). Joined n v.joins) (sym counted) joined in (
-      subst (λ (js : List Join). Ready a.admits s e used c.counts-counts.result.parts js hs) (sym c.joins.ensures.held_joins) one,
-      (subst (Joined c.counts-counts.result.parts) (sym c.joins.ensures.held_joins) two, c.if-report-counts.false),
+    let Prepared : ℕ → List Join → List Held → Type 0 = λ n js hs. Ready a.admits t.new.states t.new.arcs t.result.0 n js hs in (
+      subst (λ hs. Prepared n c.joins.result.now hs) (sym c.deref.ensures.0) (subst (λ js. Prepared n js c.in-Ok.finished.items) (sym c.joins.ensures.held_joins) (subst (λ n. Prepared n v.joins c.in-Ok.finished.items) (sym counted) now)),
+      (subst (Joined n) (sym c.joins.ensures.held_joins) (subst (λ n. Joined n v.joins) (sym counted) joined), c.if-report-counts.false),
     )
 
-pub returns-in-Ok : goal.returns-in-Ok
-returns-in-Ok g c =
+-- all that is promised where all parts are finished
+settled : (g : given.Over) (c : After-judge-verdict g) → totals (view c.args.sheet.now).held c.build_all-ended.result.0 ≡ c.totals-totals.result →
+    Completed g.A.Alphabet.labels (view c.args.sheet.now) c.args.states.now c.args.arcs.now c.build_all-ended.new.states c.build_all-ended.new.arcs c.in-Ok.finished.items c.build_all-ended.result.0 →
+    Answered g.A.Alphabet.labels (view c.args.sheet.now) c.args.states.now c.args.arcs.now c.judge-verdict.new.states c.build_all-ended.new.arcs c.args.report.now c.judge-verdict.new.report c.args.words.now c.judge-verdict.new.words (record { verdict = c.judge-verdict.result; totals = c.totals-totals.result })
+settled g c sums completed =
     let a = g.A.Alphabet.labels in
-    let laws = g.met.A.Alphabet.lawful in
     let sheet = c.args.sheet.now in
     let v = view sheet in
-    let s₀ = c.args.states.now in
-    let e₀ = c.args.arcs.now in
-    let hs = take c.in-Ok.finished.count c.in-Ok.finished.parts in
-    let s = c.finish_all.new.states in
-    let e = c.finish_all.new.arcs in
-    let s' = c.judge-verdict.new.states in
-    let r = c.args.report.now in
-    let r' = c.judge-verdict.new.report in
-    let ws = c.args.words.now in
-    let ws' = c.judge-verdict.new.words in
-    let used = c.in-Ok.finished.used in
-    let x = c.judge-verdict.result in
-    let counted = ap (λ y. y.parts) c.counts-counts.ensures.counted in
-    let held = ap (λ y. y.held) c.counts-counts.ensures.counted in
-    let one = subst (λ (js : List Join). Judges a c.counts-counts.result.parts js hs s s' e r r' ws ws' x) c.joins.ensures.held_joins c.judge-verdict.ensures.judges in
-    let two = subst (λ (n : ℕ). Judges a n v.joins hs s s' e r r' ws ws' x) counted one in
-    let all = judged_answered a laws v (known sheet) (for_parts sheet) s₀ e₀ s e hs used c.in-Ok.ensures.ends.0 s' r r' ws ws' x two in
-    let sums = sym (c.totals.ensures.counts ∙ ap (λ (h : Rows). totals h used) held) in
-    let is : ◌≡◌ {A = Solved} (record { verdict = x; totals = totals v.held used }) (record { verdict = x; totals = c.totals.result }) = λ i. record { verdict = x; totals = sums i } in
-    let done = subst (Answered a v s₀ e₀ s' e r r' ws ws') is all in
-    let whole = c.if-not-is_whole.ensures.decides.0 refl in
-    record {
-      answers = ((whole, (omega (arith, c.if-report-counts.false, counted), tt)), done.given);
-      only_answer = only a v s₀ e₀ (length ws) _ whole done.given;
-      keeps_held_states = done.states_kept;
-      keeps_held_arcs = done.arcs_kept;
-      leaves = done.leaves;
-      reports = done.reports;
-      reports_exactly = done.exactly;
-      courses_are_exact = courses_exact a laws (room s₀ e₀) (problem v s₀ e₀);
-      impossible_means_no_words = done.impossible;
-      possible_words_satisfy = done.satisfies;
-      lays_words = done.lays;
-      unknown_leaves_word_fields_empty = done.no_words;
-      decides_single_use = done.decided;
-    }
+    let t = c.build_all-ended in
+    let j = c.judge-verdict in
+    let hs = c.in-Ok.finished.items in
+    let Judged : ℕ → List Join → List Held → Type 0 = λ n js hs. Judges a n js hs t.new.states j.new.states t.new.arcs c.args.report.now j.new.report c.args.words.now j.new.words j.result in
+    let judged = subst (λ n. Judged n v.joins hs) (ap (λ x. x.parts) c.counts-counts.ensures.counted)
+        (subst (λ js. Judged c.counts-counts.result.parts js hs) c.joins.ensures.held_joins (subst (Judged c.counts-counts.result.parts c.joins.result.now) c.deref.ensures.0 j.ensures.judges)) in
+    subst (λ (x : Rows). Answered a v c.args.states.now c.args.arcs.now j.new.states t.new.arcs c.args.report.now j.new.report c.args.words.now j.new.words (record { verdict = j.result; totals = x })) sums
+    (judged_answered a g.met.A.Alphabet.lawful v (known sheet) (for_parts sheet) c.args.states.now c.args.arcs.now t.new.states t.new.arcs hs t.result.0 completed j.new.states c.args.report.now j.new.report c.args.words.now j.new.words j.result judged)
 
-pub returns-in-Err : goal.returns-in-Err
-returns-in-Err g c =
+pub returns-in-Ok-clause-answers : goal.returns-in-Ok-clause-answers
+returns-in-Ok-clause-answers g c =
+    let at = goal.at.returns-in-Ok-clause-answers g c in
+    let done = settled g at.After-judge-verdict (totals_are g at.After-totals-totals) (finished g at.In-Ok) in
+    ((c.if-not-is_whole.ensures.decides.0 refl, (omega (arith, c.if-report-counts.false, ap (λ x. x.parts) c.counts-counts.ensures.counted), tt)), done.given)
+
+pub returns-in-Ok-clause-only_answer : goal.returns-in-Ok-clause-only_answer
+returns-in-Ok-clause-only_answer g c =
+    let at = goal.at.returns-in-Ok-clause-only_answer g c in
+    let done = settled g at.After-judge-verdict (totals_are g at.After-totals-totals) (finished g at.In-Ok) in
+    only g.A.Alphabet.labels (view c.args.sheet.now) c.args.states.now c.args.arcs.now (length c.args.words.now) _ (c.if-not-is_whole.ensures.decides.0 refl) done.given
+
+pub returns-in-Ok-clause-keeps_held_states : goal.returns-in-Ok-clause-keeps_held_states
+returns-in-Ok-clause-keeps_held_states g c =
+    let at = goal.at.returns-in-Ok-clause-keeps_held_states g c in
+    let done = settled g at.After-judge-verdict (totals_are g at.After-totals-totals) (finished g at.In-Ok) in
+    done.states_kept
+
+pub returns-in-Ok-clause-reports : goal.returns-in-Ok-clause-reports
+returns-in-Ok-clause-reports g c =
+    let at = goal.at.returns-in-Ok-clause-reports g c in
+    let done = settled g at.After-judge-verdict (totals_are g at.After-totals-totals) (finished g at.In-Ok) in
+    done.reports
+
+pub returns-in-Ok-clause-reports_exactly : goal.returns-in-Ok-clause-reports_exactly
+returns-in-Ok-clause-reports_exactly g c =
+    let at = goal.at.returns-in-Ok-clause-reports_exactly g c in
+    let done = settled g at.After-judge-verdict (totals_are g at.After-totals-totals) (finished g at.In-Ok) in
+    done.exactly
+
+pub returns-in-Ok-clause-possible_words_satisfy : goal.returns-in-Ok-clause-possible_words_satisfy
+returns-in-Ok-clause-possible_words_satisfy g c =
+    let at = goal.at.returns-in-Ok-clause-possible_words_satisfy g c in
+    let done = settled g at.After-judge-verdict (totals_are g at.After-totals-totals) (finished g at.In-Ok) in
+    done.satisfies
+
+pub returns-in-Ok-clause-lays_words : goal.returns-in-Ok-clause-lays_words
+returns-in-Ok-clause-lays_words g c =
+    let at = goal.at.returns-in-Ok-clause-lays_words g c in
+    let done = settled g at.After-judge-verdict (totals_are g at.After-totals-totals) (finished g at.In-Ok) in
+    done.lays
+
+pub returns-in-Ok-clause-decides_single_use : goal.returns-in-Ok-clause-decides_single_use
+returns-in-Ok-clause-decides_single_use g c =
+    let at = goal.at.returns-in-Ok-clause-decides_single_use g c in
+    let done = settled g at.After-judge-verdict (totals_are g at.After-totals-totals) (finished g at.In-Ok) in
+    done.decided
+
+pub returns-in-Ok-clause-courses_are_exact : goal.returns-in-Ok-clause-courses_are_exact
+returns-in-Ok-clause-courses_are_exact g c = courses_exact g.A.Alphabet.labels g.met.A.Alphabet.lawful (room c.args.states.now c.args.arcs.now) (problem (view c.args.sheet.now) c.args.states.now c.args.arcs.now)
+
+-- all that is promised where the builds ended early
+broken : (g : given.Over) (c : In-Err g) → totals (view c.args.sheet.now).held c.build_all-ended.result.0 ≡ c.totals-totals.result → let t = c.build_all-ended in
+    Answered g.A.Alphabet.labels (view c.args.sheet.now) c.args.states.now c.args.arcs.now t.new.states t.new.arcs c.args.report.now c.args.report.now c.args.words.now c.args.words.now (record { verdict = c.in-Err.verdict; totals = c.totals-totals.result })
+broken g c sums =
     let a = g.A.Alphabet.labels in
-    let laws = g.met.A.Alphabet.lawful in
-    let sheet = c.args.sheet.now in
-    let v = view sheet in
-    let s₀ = c.args.states.now in
-    let e₀ = c.args.arcs.now in
-    let s = c.finish_all.new.states in
-    let e = c.finish_all.new.arcs in
+    let v = view c.args.sheet.now in
+    let t = c.build_all-ended in
     let r = c.args.report.now in
     let ws = c.args.words.now in
-    let ended = c.in-Err.ended in
-    let counted = ap (λ y. y.parts) c.counts-counts.ensures.counted in
-    let held = ap (λ y. y.held) c.counts-counts.ensures.counted in
-    let all = stopped_answered a laws v s₀ e₀ s e r ws ended.part ended.halt c.in-Err.ensures.ends in
-    let stopped_at : Rows → Solved = λ h. record { verdict = stop_verdict ended.part ended.halt; totals = totals h (used_of ended.halt) } in
-    let is = sym (c.stopped.ensures.names ∙ ap stopped_at held) in
-    let done = subst (Answered a v s₀ e₀ s e r r ws ws) is all in
-    let whole = c.if-not-is_whole.ensures.decides.0 refl in
-    record {
-      answers = ((whole, (omega (arith, c.if-report-counts.false, counted), tt)), done.given);
-      only_answer = only a v s₀ e₀ (length ws) c.stopped.result whole done.given;
-      keeps_held_states = done.states_kept;
-      keeps_held_arcs = done.arcs_kept;
-      leaves = done.leaves;
-      reports = done.reports;
-      reports_exactly = done.exactly;
-      courses_are_exact = courses_exact a laws (room s₀ e₀) (problem v s₀ e₀);
-      impossible_means_no_words = done.impossible;
-      possible_words_satisfy = done.satisfies;
-      lays_words = done.lays;
-      unknown_leaves_word_fields_empty = done.no_words;
-      decides_single_use = done.decided;
-    }
+    let stops : Stopped a v c.args.states.now c.args.arcs.now t.new.states t.new.arcs t.result.0 c.in-Err.verdict = subst (Ends a v c.args.states.now c.args.arcs.now t.new.states t.new.arcs t.result.0) c.in-Err.is t.ensures.ends in
+    subst (λ (x : Rows). Answered a v c.args.states.now c.args.arcs.now t.new.states t.new.arcs r r ws ws (record { verdict = c.in-Err.verdict; totals = x })) sums
+    (stopped_answered a g.met.A.Alphabet.lawful v c.args.states.now c.args.arcs.now t.new.states t.new.arcs r ws t.result.0 c.in-Err.verdict stops)
+
+pub returns-in-Err-clause-answers : goal.returns-in-Err-clause-answers
+returns-in-Err-clause-answers g c =
+    let at = goal.at.returns-in-Err-clause-answers g c in
+    let done = broken g at.In-Err (totals_are g at.After-totals-totals) in
+    ((c.if-not-is_whole.ensures.decides.0 refl, (omega (arith, c.if-report-counts.false, ap (λ x. x.parts) c.counts-counts.ensures.counted), tt)), done.given)
+
+pub returns-in-Err-clause-only_answer : goal.returns-in-Err-clause-only_answer
+returns-in-Err-clause-only_answer g c =
+    let at = goal.at.returns-in-Err-clause-only_answer g c in
+    let done = broken g at.In-Err (totals_are g at.After-totals-totals) in
+    only g.A.Alphabet.labels (view c.args.sheet.now) c.args.states.now c.args.arcs.now (length c.args.words.now) _ (c.if-not-is_whole.ensures.decides.0 refl) done.given
+
+pub returns-in-Err-clause-impossible_means_no_words : goal.returns-in-Err-clause-impossible_means_no_words
+returns-in-Err-clause-impossible_means_no_words g c =
+    let at = goal.at.returns-in-Err-clause-impossible_means_no_words g c in
+    let done = broken g at.In-Err (totals_are g at.After-totals-totals) in
+    done.impossible
+
+pub returns-in-Err-clause-decides_single_use : goal.returns-in-Err-clause-decides_single_use
+returns-in-Err-clause-decides_single_use g c =
+    let at = goal.at.returns-in-Err-clause-decides_single_use g c in
+    let done = broken g at.In-Err (totals_are g at.After-totals-totals) in
+    done.decided
+
+pub returns-in-Err-clause-courses_are_exact : goal.returns-in-Err-clause-courses_are_exact
+returns-in-Err-clause-courses_are_exact g c = courses_exact g.A.Alphabet.labels g.met.A.Alphabet.lawful (room c.args.states.now c.args.arcs.now) (problem (view c.args.sheet.now) c.args.states.now c.args.arcs.now)
