@@ -83,13 +83,9 @@ impl<A: Alphabet> Tables<'_, '_, A> {
         ensures same_states { self.new.states.ghost_name ≡ self.old.states.ghost_name }
         ensures same_arcs { self.new.arcs.ghost_name ≡ self.old.arcs.ghost_name }
     {
-        match all_words::<A>(self.states, self.arcs, self.used) {
-            Ok(place) => {
-                self.used = place.end();
-                Ok(place)
-            }
-            Err(stop) => Err(table_of(stop)),
-        }
+        let all = all_words::<A>(self.states, self.arcs, self.used).map_err(table_of)?;
+        self.used = all.end();
+        Ok(all)
     }
 
     // The product of two automata.
@@ -101,13 +97,10 @@ impl<A: Alphabet> Tables<'_, '_, A> {
         ensures same_arcs { self.new.arcs.ghost_name ≡ self.old.arcs.ghost_name }
     {
         let used = self.used;
-        match product::<A>(self.states, self.arcs, Operands { used, left, right }) {
-            Ok(place) => {
-                self.used = place.end();
-                Ok(place)
-            }
-            Err(stop) => Err(table_of(stop)),
-        }
+        let job = Operands { used, left, right };
+        let met = product::<A>(self.states, self.arcs, job).map_err(table_of)?;
+        self.used = met.end();
+        Ok(met)
     }
 
     // The concatenation of two automata.
@@ -119,13 +112,10 @@ impl<A: Alphabet> Tables<'_, '_, A> {
         ensures same_arcs { self.new.arcs.ghost_name ≡ self.old.arcs.ghost_name }
     {
         let used = self.used;
-        match concat::<A>(self.states, self.arcs, Operands { used, left, right }) {
-            Ok(place) => {
-                self.used = place.end();
-                Ok(place)
-            }
-            Err(stop) => Err(table_of(stop)),
-        }
+        let job = Operands { used, left, right };
+        let joined = concat::<A>(self.states, self.arcs, job).map_err(table_of)?;
+        self.used = joined.end();
+        Ok(joined)
     }
 
     // Whether some state of the automaton accepts.
