@@ -1,5 +1,5 @@
 -- What each way out of solving promises.
-use Rattle.std.proofs.Common.{◌≡◌, ℕ, ◌+◌, ◌-◌, ◌<◌, ◌≤◌, ◌↔◌, List, ◌++◌, map, length, get_or, take, drop, Ok, Err, Result, sym, refl, ap, ◌∙◌, subst, inl, inr, arith}
+use Rattle.std.proofs.Common.{◌≡◌, ℕ, ◌+◌, ◌-◌, ◌<◌, ◌≤◌, ◌↔◌, List, [], ◌++◌, map, length, get_or, take, drop, Ok, Err, Result, sym, refl, ap, ◌∙◌, subst, inl, inr, arith}
 use Rattle.std.specs.List.{ContainsAt as Has}
 use Rattle.std.proofs.ByRecursion.{has_get_or}
 use Rattle.std.proofs.lemmas.List.{length-map, get_or-map, drop-drop}
@@ -24,7 +24,7 @@ use Rattle.verdict.specs.declared.Solved.{Solved}
 use Rattle.verdict.specs.declared.Table.TheVariants.{States, Arcs, Words}
 use Rattle.verdict.specs.declared.Verdict.{Verdict}
 use Rattle.verdict.specs.declared.Verdict.TheVariants.{OutOfRoom, Impossible, Unknown, Possible}
-use Rattle.verdict.specs.Course.{Done, result_of, complete}
+use Rattle.verdict.specs.Course.{Done, Course, result_of, complete}
 use Rattle.verdict.specs.Meaning.{CoursesExact, Unsatisfiable}
 use Rattle.verdict.specs.Problem.{Problem, Pattern, Satisfies, read, problem}
 use Rattle.verdict.specs.Verdicts.{SingleUse, roots_below, bound, bounds_below, totals, Given}
@@ -34,15 +34,15 @@ use Rattle.verdict.proofs.Unique.{given_unique}
 use Rattle.words.specs.Words.{Renumbered}
 use Rattle.words.proofs.Renumbering.{at_renumbered, length-renumbered, stands_renumbered}
 use Rattle.solve.specs.declared.Row.{Row}
-use Rattle.solve.specs.declared.course.Halt.{Halt}
-use Rattle.solve.specs.declared.course.Halt.TheVariants.{Full, Empty}
-use Rattle.solve.specs.Builds.{room}
-use Rattle.solve.specs.Finishing.{Completed, Stopped}
+use Rattle.solve.specs.declared.tables.Halt.{Halt}
+use Rattle.solve.specs.declared.tables.Halt.TheVariants.{Full, Empty}
+use Rattle.solve.specs.Builds.{break_of, room}
+use Rattle.solve.specs.Finishing.{Completed, Stopped, outcome_of, stop_verdict}
 use Rattle.solve.specs.Judging.{Ready, Filled, Judges}
 use Rattle.solve.specs.Parts.{dones}
 use Rattle.solve.specs.Report.{row, place_of, word_at, automaton_of}
 use Rattle.solve.specs.Roots.{bound_in}
-use Rattle.solve.specs.Solving.{solve_checks, SolveAnswer, OnlyAnswer, Told, LeavesAll, Reported, WhenPossible, WhenUnknown, WhenImpossible, Leaves, Reports, RowAllows, ReportsExactly, placed, Lays, NoWords, Decided, stop_verdict, used_of}
+use Rattle.solve.specs.Solving.{solve_checks, SolveAnswer, OnlyAnswer, Told, LeavesAll, Reported, WhenPossible, WhenUnknown, WhenImpossible, Leaves, Reports, RowAllows, ReportsExactly, placed, Lays, NoWords, Decided}
 use Rattle.solve.proofs.Coursing.{among_finished}
 use Rattle.solve.proofs.Finds.{found_place}
 use Rattle.solve.proofs.Going.{states_at}
@@ -76,11 +76,12 @@ word_pieces words f m n = take-add m n (drop f words) ∙ ap (λ l. part words f
 
 -- the builds ended early
 module _ {L : Type 0} (a : Labels L) (laws : Lawful a) (v : View) (states : List State) (arcs : List (Arc L)) (states' : List State) (arcs' : List (Arc L)) (report : List Row) (words : List ℕ) where
-  pub stopped_answered : (p : ℕ) (x : Halt) → Stopped a v states arcs states' arcs' (record { part = p; halt = x }) → Answered a v states arcs states' arcs' report report words words (record { verdict = stop_verdict p x; totals = totals v.held (used_of x) })
-  stopped_answered p (Full t used) h = record {
-    given = record { outcome = _; course = h.course; judged = refl };
-    states_kept = h.states_kept;
-    arcs_kept = h.arcs_kept;
+  stopped_at : (p : ℕ) (halt : Halt) (used : Rows) (ds : List (Done L)) → Course a (room states arcs) (problem v states arcs) [] v.held (outcome_of p (break_of used halt) ds) → Kept v.held.states states states' → Kept v.held.arcs arcs arcs' →
+      Answered a v states arcs states' arcs' report report words words (record { verdict = stop_verdict p halt; totals = totals v.held used })
+  stopped_at p (Full t) used ds course ks ka = record {
+    given = record { outcome = _; course = course; judged = refl };
+    states_kept = ks;
+    arcs_kept = ka;
     leaves = (refl, refl);
     reports = tt;
     exactly = tt;
@@ -90,19 +91,22 @@ module _ {L : Type 0} (a : Labels L) (laws : Lawful a) (v : View) (states : List
     no_words = tt;
     decided = λ _. tt;
   }
-  stopped_answered p (Empty used) h = record {
-    given = record { outcome = _; course = h.course; judged = refl };
-    states_kept = h.states_kept;
-    arcs_kept = h.arcs_kept;
+  stopped_at p Empty used ds course ks ka = record {
+    given = record { outcome = _; course = course; judged = refl };
+    states_kept = ks;
+    arcs_kept = ka;
     leaves = (refl, refl);
     reports = tt;
     exactly = tt;
-    impossible = no_word_none a laws (room states arcs) (problem v states arcs) h.course;
+    impossible = no_word_none a laws (room states arcs) (problem v states arcs) course;
     satisfies = tt;
     lays = tt;
     no_words = tt;
-    decided = λ _ sat. no_word_none a laws (room states arcs) (problem v states arcs) h.course sat.0 sat.1;
+    decided = λ _ sat. no_word_none a laws (room states arcs) (problem v states arcs) course sat.0 sat.1;
   }
+
+  pub stopped_answered : (used : Rows) (x : Verdict) → Stopped a v states arcs states' arcs' used x → Answered a v states arcs states' arcs' report report words words (record { verdict = x; totals = totals v.held used })
+  stopped_answered used x h = subst (λ y. Answered a v states arcs states' arcs' report report words words (record { verdict = y; totals = totals v.held used })) (sym h.names) (stopped_at h.part h.halt used h.finished h.course h.states_kept h.arcs_kept)
 
 -- the automata of reported rows accept exactly what is allowed
 module _ {L : Type 0} (a : Labels L) (laws : Lawful a) (v : View) (known : Known v.parts v.joins) (states : List State) (arcs : List (Arc L)) (states' : List State) (arcs' : List (Arc L)) (report' : List Row) (r : Reports a v states arcs states' arcs' report') where

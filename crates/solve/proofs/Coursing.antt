@@ -19,11 +19,10 @@ use Rattle.verdict.specs.Course.{Finished, Due, Next, pattern_operands, join_ope
 use Rattle.verdict.specs.Problem.{Problem, read, problem}
 use Rattle.verdict.proofs.Chains.{none_due}
 use Rattle.verdict.proofs.Finding.{find_map_found, has_found}
-use Rattle.solve.specs.declared.course.Halt.{Halt}
-use Rattle.solve.specs.declared.course.Halt.TheVariants.{Full, Empty}
-use Rattle.solve.specs.declared.course.Work.{Work}
-use Rattle.solve.specs.Builds.{room, AllStand, halted, PartBuilt}
-use Rattle.solve.specs.Finishing.{Built, Completed, Stopped, outcome_of}
+use Rattle.verdict.specs.declared.Verdict.{Verdict}
+use Rattle.solve.specs.declared.tables.Halt.{Halt}
+use Rattle.solve.specs.Builds.{Work, Break, full_at, empty_at, break_of, room, AllStand, halted, PartBuilt}
+use Rattle.solve.specs.Finishing.{Built, Completed, Stopped, outcome_of, stop_verdict}
 use Rattle.solve.specs.Parts.{Among, Open, done, dones}
 use Rattle.solve.proofs.Going.{same_room, stands_same, stands_more}
 use Rattle.solve.proofs.Operands.{reads_same, dones_same}
@@ -143,17 +142,20 @@ module _ {L : Type 0} (a : Labels L) (v : View) (states₀ : List State) (arcs�
           subst (λ ps. Builds a (room states₀ arcs₀) (pattern_operands ps p ++ join_operands (dones states arcs hs) v.joins p) used e) (reads_same v.held states₀ states arcs₀ arcs u.built.states_kept u.built.arcs_kept v.patterns held) one
 
       module _ (states' : List State) (arcs' : List (Arc L)) where
-        pub stopped : (x : Halt) → PartBuilt a (pattern_operands (map (read states arcs) v.patterns) p ++ join_operands (dones states arcs hs) v.joins p) used states arcs states' arcs' (Err x) → Stopped a v states₀ arcs₀ states' arcs' (record { part = p; halt = x })
-        stopped x b = record {
+        pub stopped : (used' : Rows) (x : Halt) (v' : Verdict) → v' ≡ stop_verdict p x → PartBuilt a (pattern_operands (map (read states arcs) v.patterns) p ++ join_operands (dones states arcs hs) v.joins p) used states arcs states' arcs' (Err (break_of used' x)) → Stopped a v states₀ arcs₀ states' arcs' used' v'
+        stopped used' x v' names b = record {
+          part = p;
+          halt = x;
+          names = names;
           finished = dones states arcs hs;
-          course = by x b.builds;
+          course = by (break_of used' x) b.builds;
           states_kept = kept_more v.held.states states₀ states states' u.built.states_kept (kept_less used.states v.held.states states states' u.built.more_states b.states_kept);
           arcs_kept = kept_more v.held.arcs arcs₀ arcs arcs' u.built.arcs_kept (kept_less used.arcs v.held.arcs arcs arcs' u.built.more_arcs b.arcs_kept);
         }
           where
-            by : (x : Halt) → Builds a (room states arcs) (pattern_operands (map (read states arcs) v.patterns) p ++ join_operands (dones states arcs hs) v.joins p) used (halted x) → Course a (room states₀ arcs₀) s [] v.held (outcome_of p x (dones states arcs hs))
-            by (Full t r) b = u.leads _ (stops next (builds_here _ b))
-            by (Empty r) b = u.leads _ (empties next (builds_here _ b))
+            by : (x : Break) → Builds a (room states arcs) (pattern_operands (map (read states arcs) v.patterns) p ++ join_operands (dones states arcs hs) v.joins p) used (halted x) → Course a (room states₀ arcs₀) s [] v.held (outcome_of p x (dones states arcs hs))
+            by (full_at t r) b = u.leads _ (stops next (builds_here _ b))
+            by (empty_at r) b = u.leads _ (empties next (builds_here _ b))
 
         pub underway_more : (w : Work) → PartBuilt a (pattern_operands (map (read states arcs) v.patterns) p ++ join_operands (dones states arcs hs) v.joins p) used states arcs states' arcs' (Ok w) → Underway a v states₀ arcs₀ states' arcs' (hs ++ record { part = p; place = w.running } ∷ []) w.used
         underway_more w b =

@@ -10,11 +10,12 @@ use Rattle.sheet.specs.declared.Held.{Held}
 use Rattle.sheet.specs.Calls.{View}
 use Rattle.verdict.specs.Course.{Done, Outcome, complete, no_room, no_word, Course}
 use Rattle.verdict.specs.Problem.{problem}
-use Rattle.solve.specs.declared.course.Ended.{Ended}
-use Rattle.solve.specs.declared.course.Finished.{Finished}
-use Rattle.solve.specs.declared.course.Halt.{Halt}
-use Rattle.solve.specs.declared.course.Halt.TheVariants.{Full, Empty}
-use Rattle.solve.specs.Builds.{room, AllStand}
+use Rattle.arrayvec.specs.ArrayVec.{ArrayVec}
+use Rattle.verdict.specs.declared.Verdict.{Verdict}
+use Rattle.verdict.specs.declared.Verdict.TheVariants.{OutOfRoom, Impossible}
+use Rattle.solve.specs.declared.tables.Halt.{Halt}
+use Rattle.solve.specs.declared.tables.Halt.TheVariants.{Full, Empty}
+use Rattle.solve.specs.Builds.{Break, full_at, empty_at, break_of, room, AllStand}
 use Rattle.solve.specs.Parts.{Among, dones}
 
 -- the finished parts have their final results among the rows in use, behind the held ones
@@ -33,17 +34,25 @@ pub record Completed {L : Type 0} (a : Labels L) (v : View) (states₀ : List St
   pub built : Built v states₀ arcs₀ states arcs hs used
   pub all : (p : ℕ) → p < v.parts → Among hs p
 
-abbrev pub outcome_of : {L : Type 0} → ℕ → Halt → List (Done L) → Outcome L
-outcome_of p (Full t used) ds = no_room t p ds used
-outcome_of p (Empty used) ds = no_word p ds used
+abbrev pub outcome_of : {L : Type 0} → ℕ → Break → List (Done L) → Outcome L
+outcome_of p (full_at t used) ds = no_room t p ds used
+outcome_of p (empty_at used) ds = no_word p ds used
+
+-- the verdict where the builds of a part end early
+abbrev pub stop_verdict : ℕ → Halt → Verdict
+stop_verdict p (Full t) = OutOfRoom t p
+stop_verdict p Empty = Impossible p
 
 -- the builds ended at a part
-pub record Stopped {L : Type 0} (a : Labels L) (v : View) (states₀ : List State) (arcs₀ : List (Arc L)) (states : List State) (arcs : List (Arc L)) (x : Ended) : Type 0 where
+pub record Stopped {L : Type 0} (a : Labels L) (v : View) (states₀ : List State) (arcs₀ : List (Arc L)) (states : List State) (arcs : List (Arc L)) (used : Rows) (x : Verdict) : Type 0 where
+  pub part : ℕ
+  pub halt : Halt
+  pub names : x ≡ stop_verdict part halt
   pub finished : List (Done L)
-  pub course : Course a (room states₀ arcs₀) (problem v states₀ arcs₀) [] v.held (outcome_of x.part x.halt finished)
+  pub course : Course a (room states₀ arcs₀) (problem v states₀ arcs₀) [] v.held (outcome_of part (break_of used halt) finished)
   pub states_kept : Kept v.held.states states₀ states
   pub arcs_kept : Kept v.held.arcs arcs₀ arcs
 
-abbrev pub Ends : {L : Type 0} → Labels L → View → List State → List (Arc L) → List State → List (Arc L) → Result Finished Ended → Type 0
-Ends a v states₀ arcs₀ states arcs (Ok f) = Completed a v states₀ arcs₀ states arcs (take f.count f.parts) f.used × (f.count ≤ 64) × (length f.parts ≡ 64)
-Ends a v states₀ arcs₀ states arcs (Err x) = Stopped a v states₀ arcs₀ states arcs x
+abbrev pub Ends : {L : Type 0} → Labels L → View → List State → List (Arc L) → List State → List (Arc L) → Rows → Result (ArrayVec Held) Verdict → Type 0
+Ends a v states₀ arcs₀ states arcs used (Ok finished) = Completed a v states₀ arcs₀ states arcs finished.items used
+Ends a v states₀ arcs₀ states arcs used (Err x) = Stopped a v states₀ arcs₀ states arcs used x

@@ -19,8 +19,6 @@ use Rattle.verdict.specs.declared.Verdict.TheVariants.{OutOfRoom, Impossible, Un
 use Rattle.verdict.specs.Course.{Done, result_of, complete, Course}
 use Rattle.verdict.specs.Problem.{Problem, Pattern, Satisfies, problem}
 use Rattle.verdict.specs.Verdicts.{Given}
-use Rattle.solve.specs.declared.course.Halt.{Halt}
-use Rattle.solve.specs.declared.course.Halt.TheVariants.{Full, Empty}
 use Rattle.solve.specs.declared.Row.{Row}
 use Rattle.solve.specs.Builds.{room}
 use Rattle.solve.specs.Report.{row, no_word, word_at, automaton_of, RootsLaid, AllPieces}
@@ -68,15 +66,6 @@ WhenImpossible (Impossible p) P = P
 WhenImpossible Unknown P = Unit {0}
 WhenImpossible Possible P = Unit {0}
 WhenImpossible (OutOfRoom t p) P = Unit {0}
-
--- the verdict where the builds of a part end early, and the rows in use then
-abbrev pub stop_verdict : ℕ → Halt → Verdict
-stop_verdict p (Full t used) = OutOfRoom t p
-stop_verdict p (Empty used) = Impossible p
-
-abbrev pub used_of : Halt → Rows
-used_of (Full t used) = used
-used_of (Empty used) = used
 
 -- the rows of the report past the parts are as they were
 pub record RestKept (parts : ℕ) (before after : List Row) : Type 0 where

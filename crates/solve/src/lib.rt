@@ -5,18 +5,18 @@ ghost use Rattle.std.specs.Prelude.{◌≡◌, length};
 ghost use Rattle.build.specs.Tables.{Kept};
 ghost use Rattle.sheet.specs.Calls.{view};
 ghost use Rattle.solve.specs.Builds.{room};
-ghost use Rattle.solve.specs.Solving.{SolveAnswer, OnlyAnswer, LeavesAll, Told, Reported, Reports, ReportsExactly, WhenImpossible, WhenPossible, WhenUnknown, placed, Lays, NoWords, Decided, stop_verdict, used_of};
+ghost use Rattle.solve.specs.Solving.{SolveAnswer, OnlyAnswer, LeavesAll, Told, Reported, Reports, ReportsExactly, WhenImpossible, WhenPossible, WhenUnknown, placed, Lays, NoWords, Decided};
 ghost use Rattle.verdict.specs.Meaning.{CoursesExact, Unsatisfiable};
 ghost use Rattle.verdict.specs.Problem.{problem, Satisfies};
 ghost use Rattle.verdict.specs.Verdicts.{SingleUse, totals as totals_of};
 
-use crate::course::{Ended, Halt, finish_all};
+use crate::course::build_all;
 use crate::judge::judge;
 use alphabet::Alphabet;
 use automaton::{Arc, State};
 use build::{Place, Rows};
 use sheet::{Refusal, Sheet};
-use verdict::{Solved, Verdict};
+use verdict::Solved;
 
 mod course;
 mod judge;
@@ -26,6 +26,7 @@ mod pieces;
 mod plan;
 mod rooting;
 mod roots;
+mod tables;
 
 // Where a word lies in the words table.
 #[derive(Clone, Copy, Debug, PartialEq, Eq, Default)]
@@ -48,23 +49,6 @@ fn totals(held: Rows, used: Rows) -> Rows
     Rows {
         states: used.states.saturating_sub(held.states),
         arcs: used.arcs.saturating_sub(held.arcs),
-    }
-}
-
-// The verdict where the builds of a part end early.
-fn stopped(held: Rows, ended: Ended) -> Solved
-    ensures names { result ≡ record { verdict = stop_verdict ended.part ended.halt; totals = totals_of held (used_of ended.halt) } }
-{
-    let part = ended.part;
-    match ended.halt {
-        Halt::Full { table, used } => Solved {
-            verdict: Verdict::OutOfRoom { table, part },
-            totals: totals(held, used),
-        },
-        Halt::Empty { used } => Solved {
-            verdict: Verdict::Impossible { part },
-            totals: totals(held, used),
-        },
     }
 }
 
@@ -97,23 +81,22 @@ pub fn solve<A: Alphabet>(
     if report.len() < counts.parts {
         return Err(Refusal::ShortReport);
     }
-    match finish_all::<A>(sheet, states, arcs) {
+    let (used, ended) = build_all::<A>(sheet, states, arcs);
+    let totals = totals(counts.held, used);
+    match ended {
         Ok(finished) => {
             let verdict = judge::<A>(
                 states,
                 arcs,
-                finished.used,
+                used,
                 sheet.joins(),
                 counts.parts,
-                &finished.parts[..finished.count],
+                &finished,
                 report,
                 words,
             );
-            Ok(Solved {
-                verdict,
-                totals: totals(counts.held, finished.used),
-            })
+            Ok(Solved { verdict, totals })
         }
-        Err(ended) => Ok(stopped(counts.held, ended)),
+        Err(verdict) => Ok(Solved { verdict, totals }),
     }
 }
