@@ -2,10 +2,14 @@ pub mod Keeping
 pub mod Concatenating
 pub mod Covering
 pub mod Emitting
-pub mod Joining
 pub mod Exploring
 pub mod Finding
-pub mod Producing
+pub mod Inputs
+pub mod Joining
+pub mod Linking
+pub mod Listing
 pub mod Parts
 pub mod Places
-pub mod Linking
+pub mod Placing
+pub mod Producing
+pub mod Standing
