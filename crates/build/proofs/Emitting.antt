@@ -1,27 +1,21 @@
 -- Writing the arcs of a build: what each written row keeps.
-use Rattle.std.proofs.Common.{◌≡◌, ℕ, ◌+◌, ◌-◌, ◌<◌, ◌≤◌, min, ◌⊎◌, List, [], ◌∷◌, ◌++◌, length, get_or, set, IsErrAnd, Err, Result, sym, refl, ap, ◌∙◌, subst, inl, inr, ⊎_elim, arith}
+use Rattle.std.proofs.Common.{◌≡◌, ℕ, ◌+◌, ◌<◌, ◌≤◌, ◌⊎◌, List, [], ◌∷◌, ◌++◌, length, get_or, Ok, Err, Result, is_some, sym, ap, ◌∙◌, refl, subst, inl, inr, ⊎_elim, arith}
 use Rattle.std.specs.List.{ContainsAt as Has}
-use Rattle.std.proofs.lemmas.Result.{err_from_is_err_and}
 use Rattle.std.proofs.ByRecursion.{All-push, All-get_or, has_get_or, has_push, has_push_cases, has_append_left}
 use Rattle.std.proofs.lemmas.List.{length_push, get_or_push, get_or_append_left}
 use Rattle.std.proofs.lemmas.Bool.{cases_lt, cases_eq}
 use Rattle.alphabet.specs.Labels.{Labels}
 use Rattle.automaton.specs.declared.Arc.{Arc}
 use Rattle.automaton.specs.declared.State.{State}
-use Rattle.automaton.specs.Automaton.{Automaton, Inside, of_rows}
-use Rattle.automaton.specs.Nfa.{Nfa, rows, product}
-use Rattle.automaton.specs.Numbers.{Numbers, MoreThan}
-use Rattle.build.specs.declared.Operands.{Operands}
-use Rattle.build.specs.declared.Place.{Place}
-use Rattle.build.specs.declared.Rows.{Rows}
-use Rattle.build.specs.declared.Stop.{Stop}
-use Rattle.build.specs.declared.Stop.TheVariants.{StatesFull, ArcsFull, Outside}
-use Rattle.build.specs.Emitted.{StandsFor, Emitted, name_of, Paired, Before, Written, Wrote}
-use Rattle.build.specs.Pairs.{Pair, pairs, left_of, right_of, product_of, Ready}
-use Rattle.build.specs.Tables.{part, at, arc_room, Lies, Stands, Kept}
+use Rattle.automaton.specs.Automaton.{Automaton, arc_at}
+use Rattle.automaton.specs.Nfa.{Nfa, Meets}
+use Rattle.automaton.specs.Numbers.{MoreThan}
+use Rattle.build.specs.declared.tail.Full.{Full}
+use Rattle.build.specs.declared.tail.Tail.{Tail}
+use Rattle.build.specs.Emitted.{StandsFor, Emitted, name_of, Paired, Before, Written, Wrote, PairsWritten, PairsWrote}
+use Rattle.build.specs.Pairs.{Pair, pairs, products}
+use Rattle.build.specs.Tails.{written, room, Pushed}
 use Rattle.build.proofs.Exploring.{length_pairs}
-use Rattle.build.proofs.Keeping.{kept_more, kept_set, part_kept}
-use Rattle.build.proofs.Parts.{length_part, part_more}
 use Rattle.build.proofs.Places.{distinct_push, distinct_places}
 
 module _ {S X L : Type 0} (nfa : Nfa S X L) (name : ℕ → S) (n : ℕ) where
@@ -60,110 +54,30 @@ module _ {S X L : Type 0} (nfa : Nfa S X L) (name : ℕ → S) (n : ℕ) where
         },
       )
 
-module _ {L : Type 0} (used : Rows) (states : List State) (arcs arcs' : List (Arc L)) (kept : Kept used.arcs arcs arcs') where
-  -- an automaton among the rows in use is as it was
-  pub at_kept_arcs : (p : Place) → Lies used p → at states arcs' p ≡ at states arcs p
-  at_kept_arcs p lies = ap (λ e. of_rows (part states p.first.states p.count.states) e) (part_kept used.arcs arcs arcs' p.first.arcs p.count.arcs kept lies.arcs)
-
-  pub stands_kept_arcs : (p : Place) → Stands states arcs used p → Stands states arcs' used p
-  stands_kept_arcs p h = record { lies = h.lies; inside = subst Inside (sym (at_kept_arcs p h.lies)) h.inside }
-
-module _ {L : Type 0} (job : Operands) (states : List State) (arcs arcs' : List (Arc L)) (ready : Ready job states arcs) (kept : Kept job.used.arcs arcs arcs') where
-  -- a statement about the two operands still holds
-  pub operands_arcs : (P : Automaton L → Automaton L → Type 0) → P (left_of job states arcs) (right_of job states arcs) → P (left_of job states arcs') (right_of job states arcs')
-  operands_arcs P h =
-      subst (λ k. P (left_of job states arcs') k) (sym (at_kept_arcs job.used states arcs arcs' kept job.right ready.right.lies))
-      (subst (λ m. P m (right_of job states arcs)) (sym (at_kept_arcs job.used states arcs arcs' kept job.left ready.left.lies)) h)
-
-  pub operands_arcs_were : (P : Automaton L → Automaton L → Type 0) → P (left_of job states arcs') (right_of job states arcs') → P (left_of job states arcs) (right_of job states arcs)
-  operands_arcs_were P h =
-      subst (λ k. P (left_of job states arcs) k) (at_kept_arcs job.used states arcs arcs' kept job.right ready.right.lies)
-      (subst (λ m. P m (right_of job states arcs')) (at_kept_arcs job.used states arcs arcs' kept job.left ready.left.lies) h)
-
-  pub ready_arcs : Ready job states arcs'
-  ready_arcs = record {
-    in_use = record { states_fit = ready.in_use.states_fit; arcs_fit = omega (arith, ready.in_use.arcs_fit, kept.long) };
-    left = stands_kept_arcs job.used states arcs arcs' kept job.left ready.left;
-    right = stands_kept_arcs job.used states arcs arcs' kept job.right ready.right;
-  }
-
-  pub paired_arcs : (a : Labels L) (n : ℕ) → Paired a job states arcs n → Paired a job states arcs' n
-  paired_arcs a n h = record {
-    ready = ready_arcs;
-    fits = h.fits;
-    numbers = operands_arcs (λ m k. Numbers (product a (rows a m) (rows a k)).State n (name_of job states n)) h.numbers;
-  }
-
-module _ {S X L : Type 0} (N : Automaton L → Automaton L → Nfa S X L) (name : ℕ → S) (n : ℕ) (job : Operands) (states : List State) where
-  pub written_none : (arcs : List (Arc L)) (Looked : X → Type 0) → Ready job states arcs → ((z : X) → (N (left_of job states arcs) (right_of job states arcs)).Arrow z → Looked z → ⊥) → Written N name n job states arcs 0 Looked
-  written_none arcs Looked ready none = record {
-    room = omega (arith, ready.in_use.arcs_fit);
-    sources = [];
-    emitted = emitted_none (N (left_of job states arcs) (right_of job states arcs)) name n;
-    looked = λ z has. absurd (omega (arith, has.1));
-    complete = λ z arrow before. absurd (none z arrow before);
-  }
+  pub written_none : (Looked : X → Type 0) → ((z : X) → nfa.Arrow z → Looked z → ⊥) → Written nfa name n [] Looked
+  written_none Looked none = record { sources = []; emitted = emitted_none; looked = λ z has. absurd (omega (arith, has.1)); complete = λ z arrow before. absurd (none z arrow before) }
 
   -- more was looked at, and no arrow was among it
-  pub written_pass : (arcs : List (Arc L)) (e : ℕ) (Looked Looked' : X → Type 0) → ((z : X) → Looked z → Looked' z) → ((z : X) → (N (left_of job states arcs) (right_of job states arcs)).Arrow z → Looked' z → Looked z) → Written N name n job states arcs e Looked → Written N name n job states arcs e Looked'
-  written_pass arcs e Looked Looked' more none h = record {
-    room = h.room;
+  pub written_pass : (done : List (Arc L)) (Looked Looked' : X → Type 0) → ((z : X) → Looked z → Looked' z) → ((z : X) → nfa.Arrow z → Looked' z → Looked z) → Written nfa name n done Looked → Written nfa name n done Looked'
+  written_pass done Looked Looked' more none h = record {
     sources = h.sources;
     emitted = h.emitted;
     looked = λ z has. more z (h.looked z has);
     complete = λ z arrow before. h.complete z arrow (none z arrow before);
   }
 
-  -- one arrow more was looked at
-  module _ (arcs : List (Arc L)) (e : ℕ) (Looked Looked' : X → Type 0) (x : X) (new : Looked x → ⊥) (h : Written N name n job states arcs e Looked) (arrow : (N (left_of job states arcs) (right_of job states arcs)).Arrow x) where
-    pub written_push : Ready job states arcs → (b : Arc L) → StandsFor (N (left_of job states arcs) (right_of job states arcs)) name n b x → ((z : X) → Looked z → Looked' z) → Looked' x → ((z : X) → Looked' z → Looked z ⊎ (x ≡ z)) → job.used.arcs + e < arc_room arcs →
-        let arcs' = set arcs (job.used.arcs + e) b in Kept job.used.arcs arcs arcs' × Written N name n job states arcs' (e + 1) Looked'
-    written_push ready b for more here last low =
-        let u = job.used.arcs in
-        let arcs' = set arcs (u + e) b in
-        let nfa = N (left_of job states arcs) (right_of job states arcs) in
-        let kept = kept_set u (u + e) arcs b (omega arith) in
-        let pushed = emitted_push nfa name n (part arcs u e) h.sources b x h.emitted for arrow (λ has. new (h.looked x has)) in
-        let rows' = part_more arcs u e b (omega arith) in (
-          kept,
-          record {
-            room = omega (arith, kept.long);
-            sources = h.sources ++ x ∷ [];
-            emitted = operands_arcs job states arcs arcs' ready kept (λ m k. Emitted (N m k) name n (part arcs' u (e + 1)) (h.sources ++ x ∷ [])) (subst (λ r. Emitted nfa name n r (h.sources ++ x ∷ [])) (sym rows') pushed);
-            looked = λ z has. ⊎_elim (λ was. more z (h.looked z was)) (λ same. subst Looked' same here) (has_push_cases h.sources x z has);
-            complete = λ z arrow' before.
-                let was = operands_arcs_were job states arcs arcs' ready kept (λ m k. (N m k).Arrow z) arrow' in
-                ⊎_elim (λ old. has_append_left h.sources (x ∷ []) z (h.complete z was old)) (λ same. subst (Has (h.sources ++ x ∷ [])) same (has_push h.sources x)) (last z before);
-          },
-        )
-
-    pub written_full : arc_room arcs ≤ job.used.arcs + e → (f : ℕ → X) × MoreThan (N (left_of job states arcs) (right_of job states arcs)).Arrow (arc_room arcs - job.used.arcs) f
-    written_full full =
-        emitted_full (N (left_of job states arcs) (right_of job states arcs)) name n (part arcs job.used.arcs e) h.sources x x _ h.emitted arrow (λ has. new (h.looked x has))
-        (length_part arcs job.used.arcs e (omega (arith, h.room)) ∙ rest)
-      where
-        rest : e ≡ arc_room arcs - job.used.arcs
-        rest = omega (arith, h.room)
-
-  -- what stopped a later step stops the whole
-  pub wrote_stopped : (arcs t u : List (Arc L)) (P Q : X → Type 0) (e : Stop) (r : Result ℕ Stop) → Ready job states arcs → Kept job.used.arcs arcs t → IsErrAnd r (λ y. y ≡ e) → Wrote N name n job states t u P (Err e) → Wrote N name n job states arcs u Q r
-  wrote_stopped arcs t u P Q e r ready kept by h =
-      let p = err_from_is_err_and r by in
-      subst (Wrote N name n job states arcs u Q) (sym (p.1 ∙ ap Err p.2)) (go e h)
-    where
-      go : (e : Stop) → Wrote N name n job states t u P (Err e) → Wrote N name n job states arcs u Q (Err e)
-      go StatesFull h = absurd h
-      go Outside h = absurd h
-      go ArcsFull h = (
-        kept_more job.used.arcs arcs t u kept h.0,
-        (h.1.0, subst (λ k. MoreThan (N (left_of job states arcs) (right_of job states arcs)).Arrow (k - job.used.arcs) h.1.0) (ap (λ k. min k 1048576) kept.long) (operands_arcs_were job states arcs t ready kept (λ m k. MoreThan (N m k).Arrow (arc_room t - job.used.arcs) h.1.0) h.1.1)),
-      )
-
--- a reachable pair has a row
-pub paired_has : {L : Type 0} (a : Labels L) (job : Operands) (states : List State) (arcs : List (Arc L)) (n : ℕ) (z : Pair) → Paired a job states arcs n → (product_of a job states arcs).State z → Has (pairs job states n) z
-paired_has a job states arcs n z h state =
-    let i = h.numbers.every z state in
-    subst (Has (pairs job states n)) i.2 (has_get_or (pairs job states n) i.0 (0, 0) (rw (length_pairs job states n h.fits) i.1))
+  -- the row of one arrow more was pushed
+  pub wrote_push : (s t : Tail (Arc L)) (Looked Looked' : X → Type 0) (x : X) (b : Arc L) (r : Result (Unit {0}) Full) → (Looked x → ⊥) → Written nfa name n (written s) Looked → nfa.Arrow x → StandsFor nfa name n b x →
+      ((z : X) → Looked z → Looked' z) → Looked' x → ((z : X) → Looked' z → Looked z ⊎ (x ≡ z)) → room t ≡ room s → Pushed s t b r → Wrote nfa name n t Looked' r
+  wrote_push s t Looked Looked' x b (Ok u) new h arrow for more here last long pushed =
+      subst (λ l. Written nfa name n l Looked') (sym pushed) (record {
+        sources = h.sources ++ x ∷ [];
+        emitted = emitted_push (written s) h.sources b x h.emitted for arrow (λ has. new (h.looked x has));
+        looked = λ z has. ⊎_elim (λ was. more z (h.looked z was)) (λ same. subst Looked' same here) (has_push_cases h.sources x z has);
+        complete = λ z arrow' before. ⊎_elim (λ old. has_append_left h.sources (x ∷ []) z (h.complete z arrow' old)) (λ same. subst (Has (h.sources ++ x ∷ [])) same (has_push h.sources x)) (last z before);
+      })
+  wrote_push s t Looked Looked' x b (Err e) new h arrow for more here last long pushed =
+      emitted_full (written s) h.sources x x (room t) h.emitted arrow (λ has. new (h.looked x has)) (pushed.1 ∙ sym long)
 
 -- the order of two loops
 pub before_more : (x y : ℕ) (z : Pair) → Before x y z → Before x (y + 1) z
@@ -190,3 +104,41 @@ before_row x y z (inr here) = inl (omega (arith, here.0))
 pub row_before : (x y : ℕ) (z : Pair) → z.1 < y → Before (x + 1) 0 z → Before x y z
 row_before x y z within (inl low) = ⊎_elim (λ same. inr (same, within)) (λ other. inl (omega arith)) (cases_eq z.0 x)
 row_before x y z within (inr here) = absurd (omega (arith, here.1))
+
+module _ {L : Type 0} (a : Labels L) (m k : Automaton L) (rows : List State) where
+  -- a reachable pair has a row
+  pub paired_has : (z : Pair) → Paired a m k rows → (products a m k).State z → Has (pairs rows) z
+  paired_has z h state = let i = h.every z state in subst (Has (pairs rows)) i.2 (has_get_or (pairs rows) i.0 (0, 0) (omega (arith, i.1, length_pairs rows)))
+
+  -- two arcs that give none
+  pub passed : (out : Tail (Arc L)) (x y : ℕ) → ((products a m k).Arrow (x, y) → ⊥) → PairsWritten a m k rows out x y → PairsWritten a m k rows out x (y + 1)
+  passed out x y none h =
+      written_pass (products a m k) (name_of rows) (length rows) (written out) (Before x y) (Before x (y + 1)) (before_more x y)
+      (λ z arrow before. ⊎_elim (λ was. was) (λ same. absurd (none (subst (products a m k).Arrow (sym same) arrow))) (before_last x y z before)) h
+
+  -- after its last turn the inner loop is at the outer loop's next turn
+  pub rowed : (out : Tail (Arc L)) (x y : ℕ) → length k.arcs ≤ y → PairsWritten a m k rows out x y → PairsWritten a m k rows out (x + 1) 0
+  rowed out x y past h =
+      written_pass (products a m k) (name_of rows) (length rows) (written out) (Before x y) (Before (x + 1) 0) (before_row x y) (λ z arrow. row_before x y z (omega (arith, arrow.1))) h
+
+  -- two arcs that meet and leave a pair that was found
+  module _ (b c : Arc L) (x y i : ℕ) (paired : Paired a m k rows) (xlow : x < length m.arcs) (ylow : y < length k.arcs) (xis : arc_at a m x ≡ b) (yis : arc_at a k y ≡ c)
+      (i-low : i < length rows) (i-is : name_of rows i ≡ (b.from, c.from)) (meets : Meets a b.label c.label) where
+    pub arrow_of : (products a m k).Arrow (x, y)
+    arrow_of = (
+      xlow,
+      ylow,
+      subst (products a m k).State (i-is ∙ (λ l. ((sym xis l).from, (sym yis l).from))) (paired.each i i-low),
+      (λ l. is_some (a.first (a.meet (xis l).label (yis l).label))) ∙ meets,
+    )
+
+    pub pushed_pair : (s t : Tail (Arc L)) (j : ℕ) (r : Result (Unit {0}) Full) → j < length rows → name_of rows j ≡ (b.to, c.to) → room t ≡ room s → Pushed s t (record { from = i; label = a.meet b.label c.label; to = j }) r → PairsWritten a m k rows s x y → PairsWrote a m k rows t x (y + 1) r
+    pushed_pair s t j r j-low j-is long pushed h =
+        wrote_push (products a m k) (name_of rows) (length rows) s t (Before x y) (Before x (y + 1)) (x, y) (record { from = i; label = a.meet b.label c.label; to = j }) r (not_before x y) h arrow_of
+        (record {
+          from_state = i-low;
+          to_state = j-low;
+          from_is = i-is ∙ (λ l. ((sym xis l).from, (sym yis l).from));
+          to_is = j-is ∙ (λ l. ((sym xis l).to, (sym yis l).to));
+          label_is = λ l. a.meet (sym xis l).label (sym yis l).label;
+        }) (before_more x y) (inr (refl, omega arith)) (before_last x y) long pushed

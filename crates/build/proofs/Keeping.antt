@@ -1,12 +1,7 @@
 -- What rows that are kept still say.
-use Rattle.std.proofs.Common.{◌≡◌, ℕ, ◌+◌, ◌≤◌, List, take, drop, set, sym, refl, ap, ◌∙◌, subst, arith}
+use Rattle.std.proofs.Common.{◌≡◌, ℕ, ◌+◌, ◌≤◌, List, take, drop, set, sym, refl, ap, ◌∙◌}
 use Rattle.std.proofs.lemmas.List.{length-set, take-take, take-set-le, drop-take}
-use Rattle.automaton.specs.declared.Arc.{Arc}
-use Rattle.automaton.specs.declared.State.{State}
-use Rattle.automaton.specs.Automaton.{Inside, of_rows}
-use Rattle.build.specs.declared.Rows.{Rows}
-use Rattle.build.specs.declared.Place.{Place}
-use Rattle.build.specs.Tables.{part, at, InUse, Lies, Stands, Kept}
+use Rattle.build.specs.Tables.{part, Kept}
 
 module _ {X : Type 0} where
   pub kept_none : (n : ℕ) (xs : List X) → Kept n xs xs
@@ -25,14 +20,3 @@ module _ {X : Type 0} where
   part_kept n xs ys first m kept within =
       let front : (zs : List X) → take (first + m) zs ≡ take (first + m) (take n zs) = λ zs. sym (take-take (first + m) n zs within) in
       sym (drop-take first m ys) ∙ ap (drop first) (front ys ∙ ap (take (first + m)) kept.front ∙ sym (front xs)) ∙ drop-take first m xs
-
-module _ {L : Type 0} (used : Rows) (states states' : List State) (arcs : List (Arc L)) (kept : Kept used.states states states') where
-  -- an automaton among the rows in use is as it was
-  pub at_kept : (p : Place) → Lies used p → at states' arcs p ≡ at states arcs p
-  at_kept p lies = ap (λ s. of_rows s (part arcs p.first.arcs p.count.arcs)) (part_kept used.states states states' p.first.states p.count.states kept lies.states)
-
-  pub in_use_kept : InUse states arcs used → InUse states' arcs used
-  in_use_kept h = record { states_fit = omega (arith, h.states_fit, kept.long); arcs_fit = h.arcs_fit }
-
-  pub stands_kept : (p : Place) → Stands states arcs used p → Stands states' arcs used p
-  stands_kept p h = record { lies = h.lies; inside = subst Inside (sym (at_kept p h.lies)) h.inside }

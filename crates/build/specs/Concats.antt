@@ -1,16 +1,16 @@
 -- The concatenation of two automata in built rows: the states of the first, then those of the second.
-use Rattle.std.specs.Prelude.{◌≡◌, ℕ, ◌+◌, ◌-◌, ◌*◌, ◌<◌, Bool, false, cond, ◌&&◌, ◌⊎◌, List, ◌++◌, length, count_by, nat_lt}
+use Rattle.std.specs.Prelude.{◌≡◌, ℕ, ◌+◌, ◌-◌, ◌*◌, Bool, true, false, cond, ◌&&◌, ◌⊎◌, List, ◌++◌, map, length, count_by, filter, flat_map, nat_lt}
+use Rattle.std.specs.List.{range_with_len, list_any}
 use Rattle.std.proofs.Common.{inl, inr}
 use Rattle.alphabet.specs.Labels.{Labels, Set}
 use Rattle.automaton.specs.declared.Arc.{Arc}
 use Rattle.automaton.specs.declared.Marks.{Marks}
 use Rattle.automaton.specs.declared.State.{State}
-use Rattle.automaton.specs.Automaton.{Automaton, Accepts, Word, accepting, unmarked}
+use Rattle.automaton.specs.Automaton.{Automaton, Accepts, Word, initial, accepting, unmarked, plain}
 use Rattle.automaton.specs.Nfa.{Nfa, concat, rows}
 use Rattle.build.specs.declared.Operands.{Operands}
 use Rattle.build.specs.declared.Rows.{Rows}
-use Rattle.build.specs.Emitted.{Before}
-use Rattle.build.specs.Pairs.{Pair, left_of, right_of}
+use Rattle.build.specs.Pairs.{Pair, both, left_of, right_of}
 
 -- a state of the first or of the second
 abbrev pub Side : Type 0
@@ -56,8 +56,33 @@ first_marks s = record { initial = s.initial; accepting = false }
 abbrev pub second_marks : Bool → Marks → Marks
 second_marks nullable s = record { initial = nullable && s.initial; accepting = s.accepting }
 
--- links looked at: arcs of the first below x, of the second below y, and led on before z
-abbrev pub Copied : ℕ → ℕ → Pair → Link → Type 0
-Copied x y z (inl k) = k < x
-Copied x y z (inr (inl k)) = k < y
-Copied x y z (inr (inr p)) = Before z.0 z.1 p
+-- some state is both initial and accepting
+abbrev pub nullable : {L : Type 0} → Automaton L → Bool
+nullable m = list_any (λ s. s.initial && s.accepting) m.states
+
+-- a row with the marks that the state and others both have
+abbrev pub kept_row : Marks → Marks → State
+kept_row keep s = plain (both keep s)
+
+-- an arc whose ends lie n states further on
+abbrev pub moved : {L : Type 0} → ℕ → Arc L → Arc L
+moved n b = record { from = n + b.from; label = b.label; to = n + b.to }
+
+-- the states from n on that stand for the initial ones
+abbrev pub begun : {L : Type 0} → Automaton L → List ℕ
+begun k = filter (initial k) (range_with_len 0 (length k.states))
+
+-- an arc led on to each of some states, which are counted from n
+abbrev pub led_to : {L : Type 0} → ℕ → List ℕ → Arc L → List (Arc L)
+led_to n qs b = map (λ q. record { from = b.from; label = b.label; to = n + q }) qs
+
+-- the arcs of the first into accepting states, led on to the initial states of the second
+abbrev pub led_on : {L : Type 0} → Automaton L → Automaton L → List (Arc L)
+led_on m k = flat_map (led_to (length m.states) (begun k)) (filter (λ b. accepting m b.to) m.arcs)
+
+-- the rows of the concatenation
+abbrev pub state_rows : {L : Type 0} → Automaton L → Automaton L → List State
+state_rows m k = map (kept_row (record { initial = true; accepting = false })) m.states ++ map (kept_row (record { initial = nullable m; accepting = true })) k.states
+
+abbrev pub arc_rows : {L : Type 0} → Automaton L → Automaton L → List (Arc L)
+arc_rows m k = m.arcs ++ (map (moved (length m.states)) k.arcs ++ led_on m k)

@@ -1,5 +1,5 @@
 -- The pairs of states that lie in built rows.
-use Rattle.std.specs.Prelude.{◌≡◌, ℕ, ◌+◌, ◌<◌, ◌≤◌, true, ◌&&◌, List, [], ◌∷◌, ◌++◌, map, length, Ok, Err, Result, slice_index_or}
+use Rattle.std.specs.Prelude.{◌≡◌, ℕ, ◌<◌, true, ◌&&◌, List, [], ◌∷◌, ◌++◌, map, length, Ok, Err, Result, slice_index_or}
 use Rattle.std.specs.List.{ContainsAt as Has, AllByRecursion}
 use Rattle.alphabet.specs.Labels.{Labels}
 use Rattle.automaton.specs.declared.Marks.{Marks}
@@ -7,12 +7,13 @@ use Rattle.automaton.specs.declared.State.{State}
 use Rattle.automaton.specs.declared.Arc.{Arc}
 use Rattle.automaton.specs.Automaton.{Automaton, initial, arc_at, unmarked}
 use Rattle.automaton.specs.Nfa.{Nfa, Meets, rows, product}
-use Rattle.build.specs.declared.Stop.{Stop}
-use Rattle.build.specs.declared.Stop.TheVariants.{StatesFull, ArcsFull, Outside}
+use Rattle.automaton.specs.Numbers.{MoreThan}
 use Rattle.build.specs.declared.Operands.{Operands}
 use Rattle.build.specs.declared.Place.{Place}
-use Rattle.build.specs.Outcome.{NoStates}
-use Rattle.build.specs.Tables.{state_room, part, at, InUse, Stands, Kept}
+use Rattle.build.specs.declared.tail.Full.{Full}
+use Rattle.build.specs.declared.tail.Tail.{Tail}
+use Rattle.build.specs.Tables.{part, at, InUse, Stands}
+use Rattle.build.specs.Tails.{written, room}
 
 abbrev pub Pair : Type 0
 Pair = ℕ × ℕ
@@ -25,9 +26,9 @@ Distinct (x ∷ xs) = (Has xs x → ⊥) × Distinct xs
 abbrev pub pair_of : State → Pair
 pair_of s = (s.left, s.right)
 
--- the pairs of n built rows
-abbrev pub pairs : Operands → List State → ℕ → List Pair
-pairs job states n = map pair_of (part states job.used.states n)
+-- the pairs of built rows
+abbrev pub pairs : List State → List Pair
+pairs rows = map pair_of rows
 
 abbrev pub left_of : {L : Type 0} → Operands → List State → List (Arc L) → Automaton L
 left_of job states arcs = at states arcs job.left
@@ -55,28 +56,25 @@ both s t = record { initial = s.initial && t.initial; accepting = s.accepting &&
 abbrev pub marks_in : List State → Place → ℕ → Marks
 marks_in states p q = slice_index_or (map (λ s. s.marks) (part states p.first.states p.count.states)) q unmarked
 
-abbrev pub marks_of : {L : Type 0} → Operands → List State → List (Arc L) → ℕ → ℕ → Marks
-marks_of job states arcs p q = both (slice_index_or (left_of job states arcs).states p unmarked) (slice_index_or (right_of job states arcs).states q unmarked)
+-- the row of a pair
+abbrev pub row_of : {L : Type 0} → Automaton L → Automaton L → ℕ → ℕ → State
+row_of m k p q = record { marks = both (slice_index_or m.states p unmarked) (slice_index_or k.states q unmarked); left = p; right = q }
 
--- n rows are built, for pairs that are reachable, no two the same
-pub record Sofar {L : Type 0} (a : Labels L) (job : Operands) (arcs : List (Arc L)) (states : List State) (n : ℕ) : Type 0 where
-  pub room : job.used.states + n ≤ state_room states
-  pub reached : AllByRecursion (λ x. (product_of a job states arcs).State x) (pairs job states n)
-  pub once : Distinct (pairs job states n)
-  pub marked : AllByRecursion (λ s. s.marks ≡ marks_of job states arcs s.left s.right) (part states job.used.states n)
+-- rows are built for pairs that are reachable, no two the same
+pub record Sofar {L : Type 0} (a : Labels L) (m k : Automaton L) (rows : List State) : Type 0 where
+  pub reached : AllByRecursion (products a m k).State (pairs rows)
+  pub once : Distinct (pairs rows)
+  pub marked : AllByRecursion (λ s. s ≡ row_of m k s.left s.right) rows
 
 -- rows were added behind those that were built
-pub record Grown (job : Operands) (before after : List State) (n m : ℕ) : Type 0 where
-  pub kept : Kept job.used.states before after
-  pub added : List Pair
-  pub more : pairs job after m ≡ pairs job before n ++ added
+pub record Grown (before after : List State) : Type 0 where
+  pub added : List State
+  pub more : after ≡ before ++ added
 
 -- rows were added until what is asked of the pairs holds, or there are more reachable pairs than room
-abbrev pub Extended : {L : Type 0} → Labels L → Operands → List (Arc L) → List State → List State → ℕ → (List Pair → Type 0) → Result ℕ Stop → Type 0
-Extended a job arcs before after n P (Ok m) = Sofar a job arcs after m × Grown job before after n m × P (pairs job after m)
-Extended a job arcs before after n P (Err StatesFull) = Kept job.used.states before after × NoStates (product_of a job before arcs) job.used before
-Extended a job arcs before after n P (Err ArcsFull) = ⊥
-Extended a job arcs before after n P (Err Outside) = ⊥
+abbrev pub Extended : {L : Type 0} → Labels L → Automaton L → Automaton L → Tail State → Tail State → (List Pair → Type 0) → Result (Unit {0}) Full → Type 0
+Extended a m k before after P (Ok u) = Sofar a m k (written after) × Grown (written before) (written after) × P (pairs (written after))
+Extended a m k before after P (Err e) = (f : ℕ → Pair) × MoreThan (products a m k).State (room after) f
 
 -- the pairs of p with an initial state of the second are there
 abbrev pub BegunAt : {L : Type 0} → Automaton L → ℕ → List Pair → Type 0
@@ -85,6 +83,10 @@ BegunAt k p ps = (q : ℕ) → q < length k.states → initial k q ≡ true → 
 -- the pairs of initial states are there
 abbrev pub Begun : {L : Type 0} → Automaton L → Automaton L → List Pair → Type 0
 Begun m k ps = (p : ℕ) → p < length m.states → initial m p ≡ true → BegunAt k p ps
+
+-- the pairs that the arc b of the first reaches, with arcs from q whose labels meet its label, are there
+abbrev pub ClosedAlong : {L : Type 0} → Labels L → Automaton L → Arc L → ℕ → List Pair → Type 0
+ClosedAlong a k b q ps = (y : ℕ) → y < length k.arcs → (arc_at a k y).from ≡ q → Meets a b.label (arc_at a k y).label → Has ps (b.to, (arc_at a k y).to)
 
 -- the pairs that the arc x reaches, with arcs from q whose labels meet its label, are there
 abbrev pub ClosedBy : {L : Type 0} → Labels L → Automaton L → Automaton L → ℕ → ℕ → List Pair → Type 0

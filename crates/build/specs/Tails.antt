@@ -1,5 +1,5 @@
 -- Rows written one behind another into lent ones.
-use Rattle.std.specs.Prelude.{◌≡◌, ℕ, List, [], ◌∷◌, ◌++◌, length, take, Ok, Err, Result}
+use Rattle.std.specs.Prelude.{◌≡◌, ℕ, ◌+◌, ◌<◌, List, [], ◌∷◌, ◌++◌, length, take, Ok, Err, Result}
 use Rattle.build.specs.declared.tail.Full.{Full}
 use Rattle.build.specs.declared.tail.Tail.{Tail}
 
@@ -19,3 +19,8 @@ pub record SameRows {T : Type 0} (before after : Tail T) : Type 0 where
 abbrev pub Pushed : {T : Type 0} → Tail T → Tail T → T → Result (Unit {0}) Full → Type 0
 Pushed before after x (Ok u) = written after ≡ written before ++ x ∷ []
 Pushed before after x (Err e) = (written after ≡ written before) × (length (written before) ≡ room before)
+
+-- rows were written behind the others, or there is no room for all of them
+abbrev pub Appended : {T : Type 0} → Tail T → Tail T → List T → Result (Unit {0}) Full → Type 0
+Appended before after xs (Ok u) = written after ≡ written before ++ xs
+Appended before after xs (Err e) = room before < length (written before) + length xs

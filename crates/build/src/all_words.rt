@@ -6,7 +6,7 @@ ghost use Rattle.automaton.specs.Nfa.{all_words};
 ghost use Rattle.build.specs.Outcome.{Answer, Meant};
 ghost use Rattle.build.specs.Tables.{InUse, Kept, at};
 
-use crate::table::{arc_room, in_use, put, state_room};
+use crate::table::{arc_room, in_use, state_room};
 use crate::{Place, Rows, Stop};
 use alphabet::Alphabet;
 use automaton::{Arc, Marks, State};
@@ -31,24 +31,17 @@ pub fn all_words<A: Alphabet>(
     if used.arcs >= arc_room(arcs) {
         return Err(Stop::ArcsFull);
     }
-    states[used.states] = State {
-        marks: Marks {
-            initial: true,
-            accepting: true,
-        },
-        left: 0,
-        right: 0,
+    states[used.states] = State::from(Marks {
+        initial: true,
+        accepting: true,
+    });
+    arcs[used.arcs] = Arc {
+        from: 0,
+        label: A::full(),
+        to: 0,
     };
-    let label = A::full();
-    put(
-        arcs,
-        used.arcs,
-        Arc {
-            from: 0,
-            label,
-            to: 0,
-        },
-    );
-    let count = Rows { states: 1, arcs: 1 };
-    Ok(Place { first: used, count })
+    Ok(Place {
+        first: used,
+        count: Rows { states: 1, arcs: 1 },
+    })
 }

@@ -6,6 +6,7 @@ ghost use Rattle.build.specs.Tables.{end};
 
 pub mod all_words;
 pub mod concat;
+mod input;
 pub mod operand;
 mod pairs;
 pub mod product;

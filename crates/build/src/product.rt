@@ -1,120 +1,105 @@
 // The product of two automata: reachable pairs of states, and the pairs of arcs that leave them and whose labels meet.
-ghost use Rattle.std.specs.Prelude.{◌+◌, ◌<◌, ◌↔◌};
-ghost use Rattle.automaton.specs.Automaton.{Accepts, Word};
-ghost use Rattle.build.specs.Emitted.{name_of, Paired, Before, Written, Wrote};
-ghost use Rattle.build.specs.Outcome.{Outcome, Answer, Meant, Sizes};
+ghost use Rattle.std.specs.Prelude.{◌≡◌, ℕ, ◌+◌, ◌<◌, ◌≤◌, ◌↔◌, [], length, take};
+ghost use Rattle.std.specs.List.{ContainsAt as Has};
+ghost use Rattle.automaton.specs.Automaton.{Accepts, Word, arc_at};
+ghost use Rattle.build.specs.Emitted.{Paired, PairsWritten, PairsWrote, Fits};
+ghost use Rattle.build.specs.Outcome.{Answer, Meant, Sizes};
 ghost use Rattle.build.specs.Pairs.{Ready, products, product_of, left_of, right_of};
 ghost use Rattle.build.specs.Tables.{Kept, at};
+ghost use Rattle.build.specs.Tails.{written, SameRows};
 
-use crate::pairs::{explore, find, meets};
-use crate::table::{from, label, push, ready, to};
+use crate::input::Inputs;
+use crate::pairs::{find, meets};
+use crate::table::{arc_room, in_use, state_room};
+use crate::tail::{Full, Tail};
 use crate::{Operands, Place, Rows, Stop};
 use alphabet::Alphabet;
 use automaton::{Arc, State};
 
-// Writes the arc of two arcs, if their labels meet and they leave a reachable pair.
-fn emit_pair<A: Alphabet>(
-    states: &[State],
-    arcs: &mut [Arc<A::Label>],
-    job: Operands,
-    n: usize,
-    e: usize,
-    x: usize,
-    y: usize,
-) -> Result<usize, Stop>
-    requires paired { (Paired A.Alphabet.labels job states.now arcs.old n) × (Written (products A.Alphabet.labels) (name_of job states.now n) n job states.now arcs.old e (Before x y)) }
-    requires x_lt_arcs { (x < job.left.count.arcs) × (y < job.right.count.arcs) }
-    ensures writes { Wrote (products A.Alphabet.labels) (name_of job states.now n) n job states.now arcs.old arcs.new (Before x (y + 1)) result }
-{
-    if !meets::<A>(arcs, job, x, y) {
-        return Ok(e);
+impl<A: Alphabet> Inputs<'_, A> {
+    // Writes the arc of two arcs, if their labels meet and they leave a reachable pair.
+    fn emit_pair(
+        &self,
+        pairs: &[State],
+        out: &mut Tail<'_, Arc<A::Label>>,
+        left: &Arc<A::Label>,
+        right: &Arc<A::Label>,
+    ) -> Result<(), Full>
+        requires paired { Paired A.labels self.now.left self.now.right pairs.now }
+        requires is_left_arc { Has self.now.left.arcs left.now }
+        requires is_right_arc { Has self.now.right.arcs right.now }
+        ensures writes { (x y : ℕ) → x < length self.now.left.arcs → y < length self.now.right.arcs → arc_at A.labels self.now.left x ≡ left.now → arc_at A.labels self.now.right y ≡ right.now →
+            PairsWritten A.labels self.now.left self.now.right pairs.now out.old x y → PairsWrote A.labels self.now.left self.now.right pairs.now out.new x (y + 1) result }
+        ensures same_rows { SameRows out.old out.new }
+    {
+        if !meets::<A>(left, right) {
+            return Ok(());
+        }
+        let Some(from) = find(pairs, left.from, right.from) else {
+            return Ok(());
+        };
+        let Some(to) = find(pairs, left.to, right.to) else {
+            unreachable()
+        };
+        let label = A::meet(&left.label, &right.label);
+        out.push(Arc { from, label, to })
     }
-    let Some(i) = find(
-        states,
-        job,
-        n,
-        from(arcs, job.left, x),
-        from(arcs, job.right, y),
-    ) else {
-        return Ok(e);
-    };
-    let Some(j) = find(
-        states,
-        job,
-        n,
-        to(arcs, job.left, x),
-        to(arcs, job.right, y),
-    ) else {
-        unreachable()
-    };
-    let label = A::meet(&label(arcs, job.left, x), &label(arcs, job.right, y));
-    push(
-        arcs,
-        job.used.arcs,
-        e,
-        Arc {
-            from: i,
-            label,
-            to: j,
-        },
-    )
-}
 
-// Writes the arcs of the left arc x with every right arc.
-fn emit_arc<A: Alphabet>(
-    states: &[State],
-    arcs: &mut [Arc<A::Label>],
-    job: Operands,
-    n: usize,
-    e: usize,
-    x: usize,
-) -> Result<usize, Stop>
-    requires paired { (Paired A.Alphabet.labels job states.now arcs.old n) × (Written (products A.Alphabet.labels) (name_of job states.now n) n job states.now arcs.old e (Before x 0)) }
-    requires x_lt_arcs { x < job.left.count.arcs }
-    ensures writes { Wrote (products A.Alphabet.labels) (name_of job states.now n) n job states.now arcs.old arcs.new (Before (x + 1) 0) result }
-{
-    let mut written = e;
-    for y in 0..job.right.count.arcs {
-        written = emit_pair::<A>(states, arcs, job, n, written, x, y)?;
+    // Writes the arcs of a left arc with every right arc.
+    fn emit_arc(
+        &self,
+        pairs: &[State],
+        out: &mut Tail<'_, Arc<A::Label>>,
+        left: &Arc<A::Label>,
+    ) -> Result<(), Full>
+        requires paired { Paired A.labels self.now.left self.now.right pairs.now }
+        requires is_arc { Has self.now.left.arcs left.now }
+        ensures writes { (x : ℕ) → x < length self.now.left.arcs → arc_at A.labels self.now.left x ≡ left.now →
+            PairsWritten A.labels self.now.left self.now.right pairs.now out.old x 0 → PairsWrote A.labels self.now.left self.now.right pairs.now out.new (x + 1) 0 result }
+        ensures same_rows { SameRows out.old out.new }
+    {
+        for right in self.right.arcs() {
+            self.emit_pair(pairs, out, left, right)?;
+        }
+        Ok(())
     }
-    Ok(written)
-}
 
-// Writes the arcs of all pairs of arcs, and answers how many there are.
-fn emit<A: Alphabet>(
-    states: &[State],
-    arcs: &mut [Arc<A::Label>],
-    job: Operands,
-    n: usize,
-) -> Result<usize, Stop>
-    requires { Paired A.Alphabet.labels job states.now arcs.old n }
-    ensures writes { Wrote (products A.Alphabet.labels) (name_of job states.now n) n job states.now arcs.old arcs.new (Before job.left.count.arcs 0) result }
-{
-    let mut written = 0;
-    for x in 0..job.left.count.arcs {
-        written = emit_arc::<A>(states, arcs, job, n, written, x)?;
+    // Writes the arcs of all pairs of arcs.
+    fn emit(&self, pairs: &[State], out: &mut Tail<'_, Arc<A::Label>>) -> Result<(), Full>
+        requires paired { Paired A.labels self.now.left self.now.right pairs.now }
+        requires empty { written out.old ≡ [] }
+        ensures writes { PairsWrote A.labels self.now.left self.now.right pairs.now out.new (length self.now.left.arcs) 0 result }
+        ensures same_rows { SameRows out.old out.new }
+    {
+        for left in self.left.arcs() {
+            self.emit_arc(pairs, out, left)?;
+        }
+        Ok(())
     }
-    Ok(written)
-}
 
-// Builds both parts behind the rows in use.
-fn build<A: Alphabet>(
-    states: &mut [State],
-    arcs: &mut [Arc<A::Label>],
-    job: Operands,
-) -> Result<Place, Stop>
-    requires { Ready job states.old arcs.old }
-    ensures builds { Outcome A.Alphabet.labels (product_of A.Alphabet.labels job states.old arcs.old) job.used states.new arcs.new result }
-    ensures keeps_states { Kept job.used.states states.old states.new }
-    ensures keeps_arcs { Kept job.used.arcs arcs.old arcs.new }
-{
-    let n = explore::<A>(states, arcs, job)?;
-    let e = emit::<A>(states, arcs, job, n)?;
-    let count = Rows { states: n, arcs: e };
-    Ok(Place {
-        first: job.used,
-        count,
-    })
+    // Writes the rows of the product into as many free rows as there is room for, and answers how many there are.
+    fn product_rows(
+        &self,
+        states: &mut [State],
+        arcs: &mut [Arc<A::Label>],
+        room: Rows,
+    ) -> Result<Rows, Stop>
+        requires states_fit { room.states ≤ length states.old }
+        requires arcs_fit { room.arcs ≤ length arcs.old }
+        ensures builds { Fits A.labels (products A.labels self.now.left self.now.right) (take room.states states.new) (take room.arcs arcs.new) result }
+    {
+        let (states, _) = states.split_at_mut(room.states);
+        let (arcs, _) = arcs.split_at_mut(room.arcs);
+        let mut pairs = Tail::new(states);
+        self.explore(&mut pairs).map_err(|_| Stop::StatesFull)?;
+        let mut out = Tail::new(arcs);
+        self.emit(pairs.written(), &mut out)
+            .map_err(|_| Stop::ArcsFull)?;
+        Ok(Rows {
+            states: pairs.written().len(),
+            arcs: out.written().len(),
+        })
+    }
 }
 
 // The product of the two operands, built behind the rows in use.
@@ -131,8 +116,21 @@ pub fn product<A: Alphabet>(
     ensures keeps_states { Kept job.used.states states.old states.new }
     ensures keeps_arcs { Kept job.used.arcs arcs.old arcs.new }
 {
-    if !ready(states, arcs, job) {
+    if !in_use(states, arcs, job.used) {
         return Err(Stop::Outside);
     }
-    build::<A>(states, arcs, job)
+    let room = Rows {
+        states: state_room(states) - job.used.states,
+        arcs: arc_room(arcs) - job.used.arcs,
+    };
+    let (held_states, free_states) = states.split_at_mut(job.used.states);
+    let (held_arcs, free_arcs) = arcs.split_at_mut(job.used.arcs);
+    let Some(inputs) = Inputs::<A>::at(held_states, held_arcs, job) else {
+        return Err(Stop::Outside);
+    };
+    let count = inputs.product_rows(free_states, free_arcs, room)?;
+    Ok(Place {
+        first: job.used,
+        count,
+    })
 }

@@ -1,0 +1,30 @@
+use Rattle.std.proofs.Common.{◌≡◌, ◌+◌, true, Ok, sym, ap, ◌∙◌, subst}
+use Rattle.std.proofs.lemmas.Bool.{both_ways}
+use Rattle.automaton.specs.Automaton.{initial}
+use Rattle.build.specs.Pairs.{pairs, Extended, BegunAt}
+use Rattle.build.specs.Tails.{written, SameRows}
+use Rattle.build.proofs.Exploring.{BegunTo, below_more, turn, pass}
+use Rattle.build.proofs.input.Inputs.begin.Goals as goal
+use Rattle.build.proofs.input.Inputs.begin.Goals.{then-marks+in_ok-begin_at, else-marks}
+
+pub loop-p-preserved : goal.loop-p-preserved
+loop-p-preserved g c =
+    let a = g.A.Alphabet.labels in
+    let left = c.args.self.now.left in
+    let right = c.args.self.now.right in
+    let s = c.args.pairs.now in
+    let t = c.loop-p.pairs in
+    let p = c.loop-p.p in
+    elim c.if-marks.branch [
+      | then-marks+in_ok-begin_at w ↦
+          let u = w.begin_at.new.pairs in
+          subst (λ u. Extended a left right s u (BegunTo left right (p + 1)) (Ok tt) × SameRows s u) (sym w.pairs-is)
+          (turn a left right s t u (BegunTo left right p) (BegunAt right p) (BegunTo left right (p + 1))
+          (λ more before new. below_more (λ r. initial left r ≡ true → BegunAt right r (pairs (written u))) p (λ r low yes' q qlow qyes. more _ (before r low yes' q qlow qyes)) (λ yes'. new))
+          c.loop-p.invariant w.in_ok-begin_at.ensures.begins w.in_ok-begin_at.ensures.same_rows)
+      | else-marks w ↦
+          subst (λ u. Extended a left right s u (BegunTo left right (p + 1)) (Ok tt) × SameRows s u) (sym w.pairs-is)
+          (pass a left right s t (BegunTo left right p) (BegunTo left right (p + 1))
+          (λ before. below_more (λ r. initial left r ≡ true → BegunAt right r (pairs (written t))) p before (λ yes'. absurd (both_ways _ w.if-marks.false (ap (λ m. m.initial) c.marks.ensures.reads ∙ yes'))))
+          c.loop-p.invariant)
+    ]
