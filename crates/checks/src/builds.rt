@@ -1,9 +1,10 @@
 // Builds of small automata that lie in one pair of tables: all words, "A" and "B"; the empty text and "7".
 ghost use Rattle.std.specs.Prelude.{◌≤◌};
 
+use crate::rows::{arc, state};
 use alphabet::text::{Text, TextLabel};
 use alphabet::{Alphabet, RangedAlphabet};
-use automaton::{Arc, Marks, State};
+use automaton::{Arc, State};
 use build::all_words::all_words;
 use build::concat::concat;
 use build::product::product;
@@ -29,18 +30,10 @@ const B: Place = Place {
     count: Rows { states: 2, arcs: 1 },
 };
 
-fn state(initial: bool, accepting: bool) -> State {
-    State {
-        marks: Marks { initial, accepting },
-        left: 0,
-        right: 0,
-    }
-}
-
 fn states() -> [State; 8] {
     let begin = state(true, false);
     let end = state(false, true);
-    let spare = state(false, false);
+    let spare = State::default();
     [
         state(true, true),
         begin,
@@ -53,16 +46,12 @@ fn states() -> [State; 8] {
     ]
 }
 
-fn arc(label: TextLabel, to: usize) -> Arc<TextLabel> {
-    Arc { from: 0, label, to }
-}
-
 fn arcs() -> [Arc<TextLabel>; 6] {
-    let spare = arc(Text::full(), 0);
+    let spare = arc(0, Text::full(), 0);
     [
-        arc(Text::full(), 0),
-        arc(Text::range(65, 65), 1),
-        arc(Text::range(66, 66), 1),
+        arc(0, Text::full(), 0),
+        arc(0, Text::range(65, 65), 1),
+        arc(0, Text::range(66, 66), 1),
         spare,
         spare,
         spare,
@@ -86,16 +75,11 @@ fn meet(
     )
 }
 
-// Whether the answer is an automaton of so many rows right behind those in use.
-fn is_built(answer: Result<Place, Stop>, states: usize, arcs: usize) -> bool {
-    match answer {
-        Ok(p) => {
-            p.first.states == USED.states
-                && p.first.arcs == USED.arcs
-                && p.count.states == states
-                && p.count.arcs == arcs
-        }
-        Err(_) => false,
+// The place of so many rows right behind those in use.
+fn built(states: usize, arcs: usize) -> Place {
+    Place {
+        first: USED,
+        count: Rows { states, arcs },
     }
 }
 
@@ -103,7 +87,7 @@ fn is_built(answer: Result<Place, Stop>, states: usize, arcs: usize) -> bool {
 fn all_words_and_a(rt: HostRuntime) {
     let mut states = states();
     let mut arcs = arcs();
-    assert!(rt; is_built(meet(&mut states, &mut arcs, ALL_WORDS, A), 2, 1));
+    assert_eq!(rt; meet(&mut states, &mut arcs, ALL_WORDS, A), Ok(built(2, 1)));
     let built: Table<'_, Text> = Table {
         states: &states[5..7],
         arcs: &arcs[3..4],
@@ -116,7 +100,7 @@ fn all_words_and_a(rt: HostRuntime) {
 
 #[test]
 fn no_word_is_a_and_b(rt: HostRuntime) {
-    assert!(rt; is_built(meet(&mut states(), &mut arcs(), A, B), 1, 0));
+    assert_eq!(rt; meet(&mut states(), &mut arcs(), A, B), Ok(built(1, 0)));
 }
 
 // All words and "A", in n state rows and m arc rows.
@@ -130,11 +114,11 @@ fn meet_in(n: usize, m: usize) -> Result<Place, Stop>
 
 #[test]
 fn rows_run_out(rt: HostRuntime) {
-    assert!(rt; is_built(meet_in(7, 4), 2, 1));
-    assert!(rt; matches!(meet_in(6, 3), Err(Stop::StatesFull)));
-    assert!(rt; matches!(meet_in(7, 3), Err(Stop::ArcsFull)));
-    assert!(rt; matches!(meet_in(4, 6), Err(Stop::Outside)));
-    assert!(rt; matches!(meet_in(8, 2), Err(Stop::Outside)));
+    assert_eq!(rt; meet_in(7, 4), Ok(built(2, 1)));
+    assert_eq!(rt; meet_in(6, 3), Err(Stop::StatesFull));
+    assert_eq!(rt; meet_in(7, 3), Err(Stop::ArcsFull));
+    assert_eq!(rt; meet_in(4, 6), Err(Stop::Outside));
+    assert_eq!(rt; meet_in(8, 2), Err(Stop::Outside));
 }
 
 #[test]
@@ -145,25 +129,19 @@ fn operands_outside_are_refused(rt: HostRuntime) {
         first: Rows { states: 4, arcs: 2 },
         count: Rows { states: 2, arcs: 1 },
     };
-    assert!(rt; matches!(meet(&mut states, &mut arcs, A, past), Err(Stop::Outside)));
+    assert_eq!(rt; meet(&mut states, &mut arcs, A, past), Err(Stop::Outside));
     arcs[2].to = 2;
-    assert!(rt; matches!(meet(&mut states, &mut arcs, A, B), Err(Stop::Outside)));
-    assert!(rt; is_built(meet(&mut states, &mut arcs, ALL_WORDS, A), 2, 1));
-}
-
-// Whether the answer has so many rows.
-fn counts(p: Place, states: usize, arcs: usize) -> bool {
-    p.count.states == states && p.count.arcs == arcs
+    assert_eq!(rt; meet(&mut states, &mut arcs, A, B), Err(Stop::Outside));
+    assert_eq!(rt; meet(&mut states, &mut arcs, ALL_WORDS, A), Ok(built(2, 1)));
 }
 
 #[test]
 fn the_empty_text_then_seven_met_with_seven(rt: HostRuntime) -> Result<(), Fail> {
-    let spare = state(false, false);
-    let mut states = [spare; 12];
+    let mut states = [State::default(); 12];
     states[0] = state(true, true);
     states[1] = state(true, false);
     states[2] = state(false, true);
-    let mut arcs = [arc(Text::range(55, 55), 1); 6];
+    let mut arcs = [arc(0, Text::range(55, 55), 1); 6];
     let seven = Place {
         first: Rows { states: 1, arcs: 0 },
         count: Rows { states: 2, arcs: 1 },
@@ -179,7 +157,7 @@ fn the_empty_text_then_seven_met_with_seven(rt: HostRuntime) -> Result<(), Fail>
     let Ok(joined) = concat::<Text>(&mut states, &mut arcs, join) else {
         return Err(Fail::new("no join"));
     };
-    assert!(rt; counts(joined, 3, 1));
+    assert_eq!(rt; joined.count, Rows { states: 3, arcs: 1 });
     let meet = Operands {
         used: Rows { states: 6, arcs: 2 },
         left: joined,
@@ -188,32 +166,28 @@ fn the_empty_text_then_seven_met_with_seven(rt: HostRuntime) -> Result<(), Fail>
     let Ok(met) = product::<Text>(&mut states, &mut arcs, meet) else {
         return Err(Fail::new("no product"));
     };
-    assert!(rt; counts(met, 3, 1));
+    assert_eq!(rt; met.count, Rows { states: 3, arcs: 1 });
     Ok(())
 }
 
 #[test]
 fn all_words_take_one_row_of_each(rt: HostRuntime) -> Result<(), Fail> {
-    let mut states = [state(false, false); 2];
-    let mut arcs = [arc(Text::range(66, 65), 9); 1];
+    let mut states = [State::default(); 2];
+    let mut arcs = [arc(0, Text::range(66, 65), 9); 1];
     let one = Rows { states: 1, arcs: 0 };
     let Ok(all) = all_words::<Text>(&mut states, &mut arcs, one) else {
         return Err(Fail::new("no room"));
     };
-    assert!(rt; counts(all, 1, 1));
+    assert_eq!(rt; all.count, Rows { states: 1, arcs: 1 });
     let full = Rows { states: 1, arcs: 1 };
-    assert!(rt;
-        matches!(
-            all_words::<Text>(&mut states, &mut arcs, full),
-            Err(Stop::ArcsFull)
-        )
+    assert_eq!(rt;
+        all_words::<Text>(&mut states, &mut arcs, full),
+        Err(Stop::ArcsFull)
     );
     let past = Rows { states: 3, arcs: 0 };
-    assert!(rt;
-        matches!(
-            all_words::<Text>(&mut states, &mut arcs, past),
-            Err(Stop::Outside)
-        )
+    assert_eq!(rt;
+        all_words::<Text>(&mut states, &mut arcs, past),
+        Err(Stop::Outside)
     );
     Ok(())
 }

@@ -4,6 +4,8 @@
 #[cfg(test)]
 mod builds;
 #[cfg(test)]
+mod rows;
+#[cfg(test)]
 mod sheets;
 #[cfg(test)]
 mod solving;
@@ -76,39 +78,22 @@ mod labels {
 
 #[cfg(test)]
 mod patterns {
+    use crate::rows::{arc, state};
     use alphabet::modem::Modem;
     use alphabet::text::{Text, TextLabel};
     use alphabet::{Alphabet, RangedAlphabet};
-    use automaton::{Arc, Marks, State};
-    use giver::Giver;
+    use automaton::{Arc, State};
     use giver::accepts::accepts;
     use giver::fixed::FixedText;
     use giver::table::Table;
-
-    fn state(initial: bool, accepting: bool) -> State {
-        State {
-            marks: Marks { initial, accepting },
-            left: 0,
-            right: 0,
-        }
-    }
+    use giver::{Giver, Refusal};
 
     // A digit, then anything.
     #[test]
     fn table_accepts(rt: HostRuntime) {
-        let digit = Arc {
-            from: 0,
-            label: Modem::range(48, 57),
-            to: 1,
-        };
-        let anything = Arc {
-            from: 1,
-            label: Modem::full(),
-            to: 1,
-        };
         let table: Table<'_, Modem> = Table {
             states: &[state(true, false), state(false, true)],
-            arcs: &[digit, anything],
+            arcs: &[arc(0, Modem::range(48, 57), 1), arc(1, Modem::full(), 1)],
         };
         let version = [52, 46, 50, 49];
         assert_eq!(rt; accepts(&table, &version).ok(), Some(true));
@@ -155,20 +140,13 @@ mod patterns {
     }
 
     fn on_a(from: usize, to: usize) -> Arc<TextLabel> {
-        Arc {
-            from,
-            label: Text::range(65, 65),
-            to,
-        }
+        arc(from, Text::range(65, 65), to)
     }
 
     // The number of the refusal, and 0 where there is none.
     fn refusal<'a>(states: &'a [State], arcs: &'a [Arc<TextLabel>]) -> u32 {
         let table: Table<'a, Text> = Table { states, arcs };
-        match accepts(&table, &[65]) {
-            Ok(_) => 0,
-            Err(refusal) => refusal.number(),
-        }
+        accepts(&table, &[65]).err().map_or(0, Refusal::number)
     }
 
     #[test]

@@ -1,37 +1,25 @@
 // What a sheet answers at its limits. The number of an answer is that of its refusal, and 0 where there is none.
 ghost use Rattle.std.specs.Prelude.{◌≤◌};
 
+use crate::rows;
 use alphabet::Alphabet;
 use alphabet::text::{Text, TextLabel};
-use automaton::{Arc, Marks, State};
+use automaton::{Arc, State};
+use build::Rows;
 use giver::table::Table;
 use sheet::{Join, Refusal, Sheet};
 use std::process::Abort;
 
 fn state() -> State {
-    State {
-        marks: Marks {
-            initial: true,
-            accepting: true,
-        },
-        left: 0,
-        right: 0,
-    }
+    rows::state(true, true)
 }
 
 fn arc(from: usize, to: usize) -> Arc<TextLabel> {
-    Arc {
-        from,
-        label: Text::full(),
-        to,
-    }
+    rows::arc(from, Text::full(), to)
 }
 
 fn number(answer: Result<(), Refusal>) -> u32 {
-    match answer {
-        Ok(()) => 0,
-        Err(refusal) => refusal.number(),
-    }
+    answer.err().map_or(0, Refusal::number)
 }
 
 fn join(sheet: &mut Sheet, whole: usize, left: usize, right: usize) -> u32 {
@@ -49,14 +37,14 @@ fn give(
     number(sheet.pattern::<Text, Table<'_, Text>>(states, arcs, part, giver))
 }
 
-fn counts(sheet: &Sheet, parts: usize, patterns: usize, joins: usize) -> bool {
-    let c = sheet.counts();
-    c.parts == parts && c.patterns == patterns && c.joins == joins
+// How many parts, patterns and joins the sheet holds.
+fn counts(sheet: &Sheet) -> (usize, usize, usize) {
+    let counts = sheet.counts();
+    (counts.parts, counts.patterns, counts.joins)
 }
 
-fn rows(sheet: &Sheet, states: usize, arcs: usize) -> bool {
-    let held = sheet.counts().held;
-    held.states == states && held.arcs == arcs
+fn held(sheet: &Sheet) -> Rows {
+    sheet.counts().held
 }
 
 // A sheet of four parts.
@@ -75,8 +63,8 @@ fn parts_run_out_after_64(rt: HostRuntime) {
         assert!(rt; sheet.part().is_ok());
     }
     assert_eq!(rt; sheet.part().ok(), Some(63));
-    assert!(rt; matches!(sheet.part(), Err(Refusal::Full)));
-    assert!(rt; counts(&sheet, 64, 0, 0));
+    assert_eq!(rt; sheet.part(), Err(Refusal::Full));
+    assert_eq!(rt; counts(&sheet), (64, 0, 0));
 }
 
 #[test]
@@ -89,7 +77,7 @@ fn joins_run_out_after_64(rt: HostRuntime) {
     // full is looked at after the parts, and before a circle
     assert_eq!(rt; join(&mut sheet, 0, 0, 0), 2);
     assert_eq!(rt; join(&mut sheet, 0, 4, 0), 1);
-    assert!(rt; counts(&sheet, 4, 0, 64));
+    assert_eq!(rt; counts(&sheet), (4, 0, 64));
 }
 
 #[test]
@@ -100,9 +88,9 @@ fn joins_of_unknown_parts_are_refused(rt: HostRuntime) {
     assert_eq!(rt; join(&mut sheet, 0, 1, 4), 1);
     // parts are looked at before a circle
     assert_eq!(rt; join(&mut sheet, 0, 0, 4), 1);
-    assert!(rt; counts(&sheet, 4, 0, 0));
+    assert_eq!(rt; counts(&sheet), (4, 0, 0));
     assert_eq!(rt; join(&mut sheet, 0, 3, 3), 0);
-    assert!(rt; counts(&sheet, 4, 0, 1));
+    assert_eq!(rt; counts(&sheet), (4, 0, 1));
 }
 
 #[test]
@@ -114,10 +102,10 @@ fn circles_are_refused(rt: HostRuntime) {
     assert_eq!(rt; join(&mut sheet, 1, 2, 3), 0);
     assert_eq!(rt; join(&mut sheet, 3, 0, 2), 7);
     assert_eq!(rt; join(&mut sheet, 3, 2, 0), 7);
-    assert!(rt; counts(&sheet, 4, 0, 2));
+    assert_eq!(rt; counts(&sheet), (4, 0, 2));
     assert_eq!(rt; join(&mut sheet, 3, 2, 2), 0);
     assert_eq!(rt; join(&mut sheet, 2, 1, 1), 7);
-    assert!(rt; counts(&sheet, 4, 0, 3));
+    assert_eq!(rt; counts(&sheet), (4, 0, 3));
 }
 
 fn give_128(
@@ -142,8 +130,14 @@ fn patterns_run_out_after_128(rt: HostRuntime) {
     };
     give_128(&rt, &mut sheet, &mut states, &mut [], &one);
     assert_eq!(rt; give(&mut sheet, &mut states, &mut [], 3, &one), 2);
-    assert!(rt; counts(&sheet, 4, 128, 0));
-    assert!(rt; rows(&sheet, 128, 0));
+    assert_eq!(rt; counts(&sheet), (4, 128, 0));
+    assert_eq!(rt;
+        held(&sheet),
+        Rows {
+            states: 128,
+            arcs: 0
+        }
+    );
     // full is looked at after the part, and before the arcs and the rows
     assert_eq!(rt; give(&mut sheet, &mut states, &mut [], 4, &one), 1);
     let outside: Table<'_, Text> = Table {
@@ -204,8 +198,8 @@ fn second_in(n: usize, m: usize, to: usize) -> u32
     };
     let answer = give(&mut sheet, &mut states[0..n], &mut arcs[0..m], 1, &second);
     // a refusal changes no count
-    let same = counts(&sheet, 4, 1, 0) && rows(&sheet, 3, 2);
-    let more = counts(&sheet, 4, 2, 0) && rows(&sheet, 5, 3);
+    let same = counts(&sheet) == (4, 1, 0) && held(&sheet) == Rows { states: 3, arcs: 2 };
+    let more = counts(&sheet) == (4, 2, 0) && held(&sheet) == Rows { states: 5, arcs: 3 };
     if (answer == 0 && more) || (answer != 0 && same) {
         answer
     } else {
@@ -270,11 +264,11 @@ fn clear_lets_go_of_everything(rt: HostRuntime) {
     };
     assert_eq!(rt; give(&mut sheet, &mut states, &mut arcs, 0, &two), 0);
     assert_eq!(rt; join(&mut sheet, 0, 1, 2), 0);
-    assert!(rt; counts(&sheet, 4, 1, 1));
-    assert!(rt; rows(&sheet, 2, 1));
+    assert_eq!(rt; counts(&sheet), (4, 1, 1));
+    assert_eq!(rt; held(&sheet), Rows { states: 2, arcs: 1 });
     sheet.clear();
-    assert!(rt; counts(&sheet, 0, 0, 0));
-    assert!(rt; rows(&sheet, 0, 0));
+    assert_eq!(rt; counts(&sheet), (0, 0, 0));
+    assert_eq!(rt; held(&sheet), Rows { states: 0, arcs: 0 });
     assert_eq!(rt; join(&mut sheet, 0, 1, 2), 1);
     assert_eq!(rt; sheet.part().ok(), Some(0));
     // the tables have room again

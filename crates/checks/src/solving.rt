@@ -1,7 +1,8 @@
 // What solving answers on small sheets, and what it writes to the report and to the words.
+use crate::rows::{arc, state};
 use alphabet::text::{Text, TextLabel};
 use alphabet::{Alphabet, RangedAlphabet};
-use automaton::{Arc, Marks, State};
+use automaton::{Arc, State};
 use build::{Place, Rows};
 use giver::fixed::FixedText;
 use giver::table::Table;
@@ -22,16 +23,15 @@ const MARK: usize = 77;
 
 const LETTER: u32 = 77;
 
+const MARKED_ROWS: Rows = Rows {
+    states: MARK,
+    arcs: MARK,
+};
+
 const MARKED: Row = Row {
     automaton: Place {
-        first: Rows {
-            states: MARK,
-            arcs: MARK,
-        },
-        count: Rows {
-            states: MARK,
-            arcs: MARK,
-        },
+        first: MARKED_ROWS,
+        count: MARKED_ROWS,
     },
     word: Span {
         first: MARK,
@@ -65,48 +65,6 @@ struct Desk {
     words: [u32; LETTERS],
 }
 
-fn state(initial: bool, accepting: bool) -> State {
-    State {
-        marks: Marks { initial, accepting },
-        left: 0,
-        right: 0,
-    }
-}
-
-fn arc(from: usize, label: TextLabel, to: usize) -> Arc<TextLabel> {
-    Arc { from, label, to }
-}
-
-fn same_table(a: Full, b: Full) -> bool {
-    match (a, b) {
-        (Full::States, Full::States) => true,
-        (Full::Arcs, Full::Arcs) => true,
-        (Full::Words, Full::Words) => true,
-        _ => false,
-    }
-}
-
-fn same(a: Verdict, b: Verdict) -> bool {
-    match (a, b) {
-        (Verdict::Possible, Verdict::Possible) => true,
-        (Verdict::Unknown, Verdict::Unknown) => true,
-        (Verdict::Impossible { part: p }, Verdict::Impossible { part: q }) => p == q,
-        (Verdict::OutOfRoom { table: s, part: p }, Verdict::OutOfRoom { table: t, part: q }) =>
-            same_table(s, t) && p == q,
-        _ => false,
-    }
-}
-
-fn is_marked(row: &Row) -> bool {
-    let Place { first, count } = row.automaton;
-    first.states == MARK
-        && first.arcs == MARK
-        && count.states == MARK
-        && count.arcs == MARK
-        && row.word.first == MARK
-        && row.word.len == MARK
-}
-
 impl Desk {
     // A sheet of so many parts.
     fn new(parts: usize) -> Desk {
@@ -116,7 +74,7 @@ impl Desk {
         }
         Desk {
             sheet,
-            states: [state(false, false); ROWS],
+            states: [State::default(); ROWS],
             arcs: [arc(0, Text::full(), 0); ROWS],
             report: [MARKED; PARTS],
             words: [LETTER; LETTERS],
@@ -156,66 +114,46 @@ impl Desk {
         )
     }
 
-    // Whether solving gives this verdict, after builds of so many states and arcs in all.
-    fn gives(&mut self, lent: Lent, verdict: Verdict, states: usize, arcs: usize) -> bool {
-        match self.solve(lent) {
-            Ok(solved) => {
-                same(solved.verdict, verdict)
-                    && solved.totals.states == states
-                    && solved.totals.arcs == arcs
-            }
-            Err(_) => false,
-        }
-    }
-
     // The number of the refusal, and 0 where there is none.
     fn refusal(&mut self, lent: Lent) -> u32 {
-        match self.solve(lent) {
-            Ok(_) => 0,
-            Err(refusal) => refusal.number(),
-        }
+        self.solve(lent).err().map_or(0, Refusal::number)
     }
 
     // Whether the word of the part stands from there on and has these letters.
     fn has_word(&self, part: usize, first: usize, letters: &[u32]) -> bool {
-        match self.report.get(part) {
-            Some(row) => {
-                row.word.first == first
-                    && row.word.len == letters.len()
-                    && self
-                        .words
-                        .iter()
-                        .skip(first)
-                        .take(letters.len())
-                        .eq(letters)
-            }
-            None => false,
-        }
+        let word = Span {
+            first,
+            len: letters.len(),
+        };
+        self.report.get(part).is_some_and(|row| row.word == word)
+            && self
+                .words
+                .get(first..)
+                .is_some_and(|words| words.starts_with(letters))
     }
 
     // Whether the rows of the report from there on are as they were.
     fn report_stays_from(&self, part: usize) -> bool {
-        for row in self.report.iter().skip(part) {
-            if !is_marked(row) {
-                return false;
-            }
-        }
-        true
+        self.report.iter().skip(part).all(|row| *row == MARKED)
     }
 
     // Whether the letters from there on are as they were.
     fn words_stay_from(&self, place: usize) -> bool {
-        for letter in self.words.iter().skip(place) {
-            if *letter != LETTER {
-                return false;
-            }
-        }
-        true
+        self.words
+            .iter()
+            .skip(place)
+            .all(|letter| *letter == LETTER)
     }
 
     fn stays(&self) -> bool {
         self.report_stays_from(0) && self.words_stay_from(0)
     }
+}
+
+// The answer with this verdict, after builds of so many states and arcs in all.
+fn solved(verdict: Verdict, states: usize, arcs: usize) -> Result<Solved, Refusal> {
+    let totals = Rows { states, arcs };
+    Ok(Solved { verdict, totals })
 }
 
 const POSSIBLE: Verdict = Verdict::Possible;
@@ -233,15 +171,15 @@ fn full(table: Full, part: usize) -> Verdict {
 // All words have 1 state and 1 arc, and met with "A" 2 and 1. That met with "B" has 1 state, which does not accept.
 #[test]
 fn a_part_alone(rt: HostRuntime) {
-    assert!(rt; Desk::new(0).gives(ALL, POSSIBLE, 0, 0));
+    assert_eq!(rt; Desk::new(0).solve(ALL), solved(POSSIBLE, 0, 0));
     let mut desk = Desk::new(1);
-    assert!(rt; desk.gives(ALL, POSSIBLE, 1, 1));
+    assert_eq!(rt; desk.solve(ALL), solved(POSSIBLE, 1, 1));
     assert!(rt; desk.has_word(0, 0, &[]));
     desk.text(&rt, 0, &[65]);
-    assert!(rt; desk.gives(ALL, POSSIBLE, 3, 2));
+    assert_eq!(rt; desk.solve(ALL), solved(POSSIBLE, 3, 2));
     assert!(rt; desk.has_word(0, 0, &[65]));
     desk.text(&rt, 0, &[66]);
-    assert!(rt; desk.gives(ALL, impossible(0), 4, 2));
+    assert_eq!(rt; desk.solve(ALL), solved(impossible(0), 4, 2));
 }
 
 // What the sheet of `seven` needs: it holds 5 states and 2 arcs, and its root has a final result of 3 states.
@@ -267,7 +205,7 @@ fn seven(rt: &impl Abort) -> Desk {
 #[test]
 fn the_empty_text_then_seven(rt: HostRuntime) {
     let mut desk = seven(&rt);
-    assert!(rt; desk.gives(ENOUGH, POSSIBLE, 14, 7));
+    assert_eq!(rt; desk.solve(ENOUGH), solved(POSSIBLE, 14, 7));
     assert!(rt; desk.has_word(0, 0, &[]));
     assert!(rt; desk.has_word(1, 0, &[55]));
     assert!(rt; desk.has_word(2, 0, &[55]));
@@ -282,13 +220,13 @@ fn a_row_or_a_letter_is_missing(rt: HostRuntime) {
         states: 18,
         ..ENOUGH
     };
-    assert!(rt; desk.gives(states, full(Full::States, 2), 11, 6));
+    assert_eq!(rt; desk.solve(states), solved(full(Full::States, 2), 11, 6));
     let both = Lent { arcs: 8, ..states };
-    assert!(rt; desk.gives(both, full(Full::States, 2), 11, 6));
+    assert_eq!(rt; desk.solve(both), solved(full(Full::States, 2), 11, 6));
     let arcs = Lent { arcs: 8, ..ENOUGH };
-    assert!(rt; desk.gives(arcs, full(Full::Arcs, 2), 11, 6));
+    assert_eq!(rt; desk.solve(arcs), solved(full(Full::Arcs, 2), 11, 6));
     let words = Lent { words: 1, ..ENOUGH };
-    assert!(rt; desk.gives(words, full(Full::Words, 2), 14, 7));
+    assert_eq!(rt; desk.solve(words), solved(full(Full::Words, 2), 14, 7));
     assert!(rt; desk.stays());
 }
 
@@ -310,14 +248,14 @@ fn a_part_used_twice(rt: HostRuntime) {
         arcs: &[arc(0, Text::range(65, 66), 1)],
     };
     desk.table(&rt, 1, &a_or_b);
-    assert!(rt; desk.gives(ALL, UNKNOWN, 15, 11));
+    assert_eq!(rt; desk.solve(ALL), solved(UNKNOWN, 15, 11));
     assert!(rt; desk.has_word(0, 0, &[]));
     assert!(rt; desk.has_word(1, 0, &[]));
     assert!(rt; desk.report_stays_from(2));
     assert!(rt; desk.words_stay_from(0));
     let mut desk = twice(&rt);
     desk.text(&rt, 1, &[65]);
-    assert!(rt; desk.gives(ALL, impossible(0), 14, 10));
+    assert_eq!(rt; desk.solve(ALL), solved(impossible(0), 14, 10));
     assert!(rt; desk.stays());
 }
 
@@ -328,7 +266,7 @@ fn a_join_held_twice(rt: HostRuntime) {
     let mut desk = Desk::new(3);
     desk.join(&rt, 0, 1, 2);
     desk.join(&rt, 0, 1, 2);
-    assert!(rt; desk.gives(ALL, UNKNOWN, 13, 21));
+    assert_eq!(rt; desk.solve(ALL), solved(UNKNOWN, 13, 21));
 }
 
 // Part 1 takes 1 state and 1 arc, then 3 and 2; part 2 takes 1 and 1, then 2 and 1; part 0 takes 1 and 1, then 4 and 3,
@@ -348,7 +286,7 @@ fn the_first_beginning_leaves_too_much(rt: HostRuntime) {
     desk.text(&rt, 2, &[99]);
     desk.text(&rt, 0, &[97, 98, 99]);
     desk.join(&rt, 0, 1, 2);
-    assert!(rt; desk.gives(ALL, POSSIBLE, 23, 19));
+    assert_eq!(rt; desk.solve(ALL), solved(POSSIBLE, 23, 19));
     assert!(rt; desk.has_word(0, 0, &[97, 98, 99]));
     assert!(rt; desk.has_word(1, 0, &[97, 98]));
     assert!(rt; desk.has_word(2, 2, &[99]));
@@ -360,10 +298,19 @@ fn two_roots(rt: HostRuntime) {
     let mut desk = Desk::new(2);
     desk.text(&rt, 0, &[65, 66]);
     desk.text(&rt, 1, &[67]);
-    assert!(rt; desk.gives(Lent { words: 1, ..ALL }, full(Full::Words, 0), 7, 5));
-    assert!(rt; desk.gives(Lent { words: 2, ..ALL }, full(Full::Words, 1), 7, 5));
+    assert_eq!(rt;
+        desk.solve(Lent { words: 1, ..ALL }),
+        solved(full(Full::Words, 0), 7, 5)
+    );
+    assert_eq!(rt;
+        desk.solve(Lent { words: 2, ..ALL }),
+        solved(full(Full::Words, 1), 7, 5)
+    );
     assert!(rt; desk.stays());
-    assert!(rt; desk.gives(Lent { words: 3, ..ALL }, POSSIBLE, 7, 5));
+    assert_eq!(rt;
+        desk.solve(Lent { words: 3, ..ALL }),
+        solved(POSSIBLE, 7, 5)
+    );
     assert!(rt; desk.has_word(0, 0, &[65, 66]));
     assert!(rt; desk.has_word(1, 2, &[67]));
     assert!(rt; desk.report_stays_from(2));

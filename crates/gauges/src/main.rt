@@ -14,10 +14,9 @@ use build::{Place, Rows, Stop};
 use lines::{Lines, Quoted};
 use reply::Replies;
 use std::alloc::{AllocError, Global};
-use std::env;
-use std::fmt;
 use std::fmt::Write;
 use std::io::Read;
+use std::{env, fmt};
 
 // What each pattern says of a reply.
 #[derive(Clone, Copy)]
@@ -139,9 +138,7 @@ fn solve_sheets(rt: &HostRuntime) -> anyhow::Result<()> {
 // Whether the first word of the command line asks for it. A command line that cannot be read asks for nothing.
 fn is_asked_to_solve(rt: &HostRuntime) -> bool {
     env::args(rt).is_ok_and(|mut words| {
-        words
-            .nth(1)
-            .is_some_and(|word| word.as_str() == "solve")
+        words.nth(1).is_some_and(|word| word.as_str() == "solve")
     })
 }
 

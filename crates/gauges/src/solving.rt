@@ -51,7 +51,10 @@ fn part_lines(
         let end = row.automaton.end();
         let states = first.states..end.states;
         let arcs = first.arcs..end.arcs;
-        writeln!(out, "{name} {word}: state rows {states:?}, arc rows {arcs:?}")?;
+        writeln!(
+            out,
+            "{name} {word}: state rows {states:?}, arc rows {arcs:?}"
+        )?;
     }
     Ok(out)
 }
