@@ -31,7 +31,7 @@ fn place_words<A: Alphabet>(
     ensures places { Placed A.Alphabet.labels plan.now.parts plan.now.joins.now states.old states.new arcs.now report.old report.new words.old words.new }
 {
     place_roots::<A>(states, arcs, used, plan, report, words);
-    place_pieces::<A>(states, arcs, used, plan.joins, plan.parts, report, words);
+    place_pieces::<A>(states, arcs, used, plan, report, words);
 }
 
 // Unknown if a part is used twice; else possible, with words, unless the words table is too short.

@@ -1,15 +1,17 @@
 // The words of the parts that stand on right-hand sides: pieces of the words of their roots.
-ghost use Rattle.std.specs.Prelude.{◌≡◌, ℕ, ◌<◌, ◌≤◌, length, Decides};
+ghost use Rattle.std.specs.Prelude.{◌≡◌, ℕ, ◌<◌, ◌≤◌, length};
 ghost use Rattle.std.specs.List.{ContainsAt as Has};
 ghost use Rattle.automaton.specs.Automaton.{Accepts, Word};
 ghost use Rattle.build.specs.Concats.{InTurn};
 ghost use Rattle.build.specs.Tables.{InUse, Stands};
-ghost use Rattle.sheet.specs.Joins.{AtOrBelow, Known, Marked};
+ghost use Rattle.sheet.specs.Joins.{Marked};
 ghost use Rattle.verdict.specs.Verdicts.{Root, SingleUse};
 ghost use Rattle.words.specs.Words.{Renumbered};
 ghost use Rattle.solve.specs.Pieces.{SplitUp};
 ghost use Rattle.solve.specs.Report.{AllPieces, Reworded, Standing, Within, Worded, automaton_of, row, word_at};
 
+use crate::plan::Plan;
+use crate::roots::is_root;
 use crate::{Row, Span};
 use alphabet::Alphabet;
 use automaton::{Arc, State};
@@ -18,25 +20,15 @@ use sheet::Join;
 use sheet::marking::{PartSet, unsettled};
 use words::splitting::split;
 
-// Whether a part stands on no right-hand side.
-fn is_root(joins: &[Join], part: usize) -> bool
-    ensures decides { Decides result (Root joins.now part) }
-{
-    joins
-        .iter()
-        .all(|join| join.left != part && join.right != part)
-}
-
-// The roots among so many parts.
-fn roots(joins: &[Join], parts: usize) -> PartSet
-    requires few { parts ≤ 64 }
+// The roots among the parts.
+fn roots(plan: &Plan) -> PartSet
     ensures long { length result ≡ 64 }
-    ensures all { (p : ℕ) → p < parts → Root joins.now p → Marked result p }
-    ensures only { (p : ℕ) → Marked result p → (p < parts) × Root joins.now p }
+    ensures all { (p : ℕ) → p < plan.now.parts → Root plan.now.joins.now p → Marked result p }
+    ensures only { (p : ℕ) → Marked result p → (p < plan.now.parts) × Root plan.now.joins.now p }
 {
     let mut roots = PartSet::new();
-    for part in 0..parts {
-        if is_root(joins, part) {
+    for part in 0..plan.parts {
+        if is_root(plan.joins, part) {
             roots.insert(part);
         }
     }
@@ -85,25 +77,23 @@ pub fn place_pieces<A: Alphabet>(
     states: &mut [State],
     arcs: &[Arc<A::Label>],
     used: Rows,
-    joins: &[Join],
-    parts: usize,
+    plan: &Plan,
     report: &mut [Row],
     words: &[u32],
 )
-    requires standing { (Standing states.old arcs.now used parts report.old) × ((parts ≤ 64) × (length joins.now ≤ 64)) }
-    requires single_use { (SingleUse joins.now) × (Known parts joins.now) }
-    requires in_turn { (j : Join) → Has joins.now j → (w : Word) → Accepts A.Alphabet.labels.admits (automaton_of states.old arcs.now report.old j.whole) w →
+    requires standing { Standing states.old arcs.now used plan.now.parts report.old }
+    requires single_use { SingleUse plan.now.joins.now }
+    requires in_turn { (j : Join) → Has plan.now.joins.now j → (w : Word) → Accepts A.Alphabet.labels.admits (automaton_of states.old arcs.now report.old j.whole) w →
         InTurn A.Alphabet.labels.admits (automaton_of states.old arcs.now report.old j.left) (automaton_of states.old arcs.now report.old j.right) w }
-    requires by_index { (p : ℕ) → p < parts → Root joins.now p → Worded A.Alphabet.labels.admits states.old arcs.now report.old words.now p × Within report.old words.now p }
-    requires by_index_2 { (p : ℕ) → p < parts → (r : ℕ) × (r < parts) × Root joins.now r × AtOrBelow joins.now r p }
-    ensures renumbers { (n : ℕ) → ((p : ℕ) → p < parts → n ≤ (row report.old p).automaton.first.states) → Renumbered n states.old states.new }
-    ensures rewords { Reworded parts report.old report.new }
-    ensures keeps_roots { (p : ℕ) → p < parts → Root joins.now p → row report.new p ≡ row report.old p }
-    ensures pieces { AllPieces joins.now report.new }
-    ensures accepts { (p : ℕ) → p < parts → Worded A.Alphabet.labels.admits states.old arcs.now report.new words.now p }
+    requires roots_worded { (p : ℕ) → p < plan.now.parts → Root plan.now.joins.now p → Worded A.Alphabet.labels.admits states.old arcs.now report.old words.now p × Within report.old words.now p }
+    ensures renumbers { (n : ℕ) → ((p : ℕ) → p < plan.now.parts → n ≤ (row report.old p).automaton.first.states) → Renumbered n states.old states.new }
+    ensures rewords { Reworded plan.now.parts report.old report.new }
+    ensures keeps_roots { (p : ℕ) → p < plan.now.parts → Root plan.now.joins.now p → row report.new p ≡ row report.old p }
+    ensures pieces { AllPieces plan.now.joins.now report.new }
+    ensures accepts { (p : ℕ) → p < plan.now.parts → Worded A.Alphabet.labels.admits states.old arcs.now report.new words.now p }
 {
-    let mut placed = roots(joins, parts);
-    while let Some(join) = unsettled(joins, &placed) {
+    let mut placed = roots(plan);
+    while let Some(join) = unsettled(plan.joins, &placed) {
         split_join::<A>(states, arcs, used, report, words, join);
         placed.insert(join.left);
         placed.insert(join.right);

@@ -1,6 +1,5 @@
 use Rattle.std.proofs.Common.{ap, arith}
 use Rattle.build.specs.declared.Place.{Place}
-use Rattle.verdict.proofs.Chains.{rooted}
 use Rattle.words.proofs.Renumbering.{renumbered_more}
 use Rattle.solve.specs.Report.{word_len}
 use Rattle.solve.proofs.Judged.{standing_still, sound_still, worded_renumbered, laid_still}
@@ -18,14 +17,13 @@ place_pieces-requires g c =
     let roots = c.place_roots.ensures in
     let again = roots.renumbers 0 (λ p low. omega arith) in
     record {
-      standing = (standing_still roots.rewords again c.requires.standing, (plan.few_parts, plan.few_joins));
-      single_use = (c.requires.single_use, plan.known);
+      standing = standing_still roots.rewords again c.requires.standing;
+      single_use = c.requires.single_use;
       in_turn = (sound_still roots.rewords again c.requires.sound).splits;
-      by_index = (λ p low root. (
+      roots_worded = (λ p low root. (
         (worded_renumbered admits c.args.arcs.now report words p again).1 (roots.accepts p low root),
         omega (arith, roots.lays.first p low root, roots_before js (word_len report) p plan.parts low root, roots.lays.within, roots.lays.long),
       ));
-      by_index_2 = rooted js plan.parts plan.acyclic plan.known;
     }
 
 pub returns : goal.returns
