@@ -1,6 +1,5 @@
 -- What holds of the view of every sheet.
-use Rattle.std.proofs.Common.{◌≤◌, length, arith}
-use Rattle.std.proofs.lemmas.List.{length-take-le}
+use Rattle.std.proofs.Common.{◌≤◌, length}
 use Rattle.sheet.specs.declared.Sheet.{Sheet}
 use Rattle.sheet.specs.Calls.{view}
 use Rattle.sheet.specs.Joins.{Acyclic, Known}
@@ -10,7 +9,7 @@ pub few_parts : (s : Sheet) → (view s).parts ≤ 64
 few_parts s = s.few_parts
 
 pub few_joins : (s : Sheet) → length (view s).joins ≤ 64
-few_joins s = omega (arith, length-take-le s.counts.joins s.joins (omega (arith, s.few_joins, s.long_joins)), s.few_joins)
+few_joins s = s.few_joins
 
 pub few_states : (s : Sheet) → (view s).held.states ≤ 65536
 few_states s = s.few_states

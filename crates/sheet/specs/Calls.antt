@@ -1,11 +1,12 @@
 -- What a sheet holds, and what each call answers and leaves.
-use Rattle.std.specs.Prelude.{◌≡◌, ℕ, ◌+◌, ◌<◌, List, [], ◌∷◌, ◌++◌, map, length, take, Ok, Err, Result}
+use Rattle.std.specs.Prelude.{◌≡◌, ℕ, ◌+◌, ◌<◌, List, [], ◌∷◌, ◌++◌, map, length, Ok, Err, Result}
 use Rattle.automaton.specs.declared.Arc.{Arc}
 use Rattle.automaton.specs.declared.State.{State}
 use Rattle.automaton.specs.Automaton.{Automaton, Inside, plain}
 use Rattle.build.specs.declared.Rows.{Rows}
 use Rattle.build.specs.Tables.{part, Kept}
 use Rattle.giver.specs.Told.{Small}
+use Rattle.sheet.specs.declared.Counts.{Counts}
 use Rattle.sheet.specs.declared.Held.{Held}
 use Rattle.sheet.specs.declared.Join.{Join}
 use Rattle.sheet.specs.declared.Refusal.{Refusal}
@@ -24,11 +25,15 @@ pub record View : Type 0 where
 
 abbrev pub view : Sheet → View
 view s = record {
-  parts = s.counts.parts;
-  patterns = take s.counts.patterns s.patterns;
-  joins = take s.counts.joins s.joins;
-  held = s.counts.held;
+  parts = s.parts;
+  patterns = s.patterns.items;
+  joins = s.joins.items;
+  held = s.held;
 }
+
+-- how much a sheet holds
+abbrev pub counts_of : View → Counts
+counts_of s = record { parts = s.parts; patterns = length s.patterns; joins = length s.joins; held = s.held }
 
 -- the number of each refusal
 abbrev pub number : Refusal → ℕ

@@ -1,13 +1,14 @@
 // The calls on a sheet.
 ghost use Rattle.std.specs.Prelude.{◌≡◌, Decides};
 ghost use Rattle.giver.specs.Told.{number as giver_number};
-ghost use Rattle.sheet.specs.Calls.{view, number, empty, PartAnswer, PatternAnswer, JoinAnswer};
+ghost use Rattle.sheet.specs.Calls.{view, counts_of, number, empty, PartAnswer, PatternAnswer, JoinAnswer};
 ghost use Rattle.sheet.specs.Patterns.{Whole};
 
 use crate::circle::closes;
 use crate::pattern::{fits, write_rows};
-use crate::{Counts, Held, Join, MAX_JOINS, MAX_PARTS, MAX_PATTERNS, Refusal, Sheet};
+use crate::{Counts, Held, Join, MAX_PARTS, Refusal, Sheet};
 use alphabet::Alphabet;
+use arrayvec::ArrayVec;
 use automaton::{Arc, State};
 use build::operand::stands;
 use build::{Place, Rows};
@@ -49,9 +50,22 @@ impl Sheet {
         ensures holds_nothing { view result ≡ empty }
     {
         Sheet {
-            counts: Counts::default(),
-            patterns: [Held::default(); MAX_PATTERNS],
-            joins: [Join::default(); MAX_JOINS],
+            parts: 0,
+            patterns: ArrayVec::new(),
+            joins: ArrayVec::new(),
+            held: Rows::default(),
+        }
+    }
+
+    // How much the sheet holds.
+    pub fn counts(&self) -> Counts
+        ensures counted { result ≡ counts_of (view self.now) }
+    {
+        Counts {
+            parts: self.parts,
+            patterns: self.patterns.len(),
+            joins: self.joins.len(),
+            held: self.held,
         }
     }
 
@@ -59,11 +73,11 @@ impl Sheet {
     pub fn part(&mut self) -> Result<usize, Refusal>
         ensures answers { PartAnswer (view self.old) (view self.new) result }
     {
-        let part = self.counts.parts;
+        let part = self.parts;
         if part >= MAX_PARTS {
             return Err(Refusal::Full);
         }
-        self.counts.parts += 1;
+        self.parts += 1;
         Ok(part)
     }
 
@@ -77,17 +91,17 @@ impl Sheet {
     ) -> Result<(), Refusal>
         ensures answers { PatternAnswer (view self.old) states.old arcs.old part (G.Giver.automaton giver.now) (view self.new) states.new arcs.new result }
     {
-        if part >= self.counts.parts {
+        if part >= self.parts {
             return Err(Refusal::UnknownPart);
         }
-        if self.counts.patterns >= MAX_PATTERNS {
+        if self.patterns.is_full() {
             return Err(Refusal::Full);
         }
         check(giver)?;
         if !self.is_whole(states, arcs) {
             return Err(Refusal::RowsLost);
         }
-        let held = self.counts.held;
+        let held = self.held;
         let count = Rows {
             states: giver.state_count(),
             arcs: giver.arc_count(),
@@ -99,9 +113,8 @@ impl Sheet {
         }
         write_rows(states, held.states, count.states, |q| giver.marks(q).into());
         write_rows(arcs, held.arcs, count.arcs, |k| giver.arc(k));
-        self.patterns[self.counts.patterns] = Held { part, place };
-        self.counts.patterns += 1;
-        self.counts.held = end;
+        self.patterns.push(Held { part, place });
+        self.held = end;
         Ok(())
     }
 
@@ -109,18 +122,17 @@ impl Sheet {
     pub fn join(&mut self, join: Join) -> Result<(), Refusal>
         ensures answers { JoinAnswer (view self.old) join (view self.new) result }
     {
-        let parts = self.counts.parts;
+        let parts = self.parts;
         if join.whole >= parts || join.left >= parts || join.right >= parts {
             return Err(Refusal::UnknownPart);
         }
-        if self.counts.joins >= MAX_JOINS {
+        if self.joins.is_full() {
             return Err(Refusal::Full);
         }
-        if closes(self.joins(), join) {
+        if closes(&self.joins, join) {
             return Err(Refusal::Circle);
         }
-        self.joins[self.counts.joins] = join;
-        self.counts.joins += 1;
+        self.joins.push(join);
         Ok(())
     }
 
@@ -128,25 +140,25 @@ impl Sheet {
     pub fn patterns(&self) -> &[Held]
         ensures held_patterns { result.now ≡ (view self.now).patterns }
     {
-        &self.patterns[..self.counts.patterns]
+        &self.patterns
     }
 
     // The joins, in the order in which they were accepted.
     pub fn joins(&self) -> &[Join]
         ensures held_joins { result.now ≡ (view self.now).joins }
     {
-        &self.joins[..self.counts.joins]
+        &self.joins
     }
 
     // Whether the tables have the held rows, and no held arc leads outside its pattern.
     pub fn is_whole<L: Copy>(&self, states: &[State], arcs: &[Arc<L>]) -> bool
         ensures decides { Decides result (Whole (view self.now).patterns (view self.now).held states.now arcs.now) }
     {
-        let rows = self.counts.held;
+        let rows = self.held;
         rows.states <= states.len()
             && rows.arcs <= arcs.len()
             && self
-                .patterns()
+                .patterns
                 .iter()
                 .all(|held| stands(states, arcs, rows, held.place))
     }
@@ -155,6 +167,9 @@ impl Sheet {
     pub fn clear(&mut self)
         ensures holds_nothing { view self.new ≡ empty }
     {
-        self.counts = Counts::default();
+        self.parts = 0;
+        self.patterns.clear();
+        self.joins.clear();
+        self.held = Rows::default();
     }
 }

@@ -1,10 +1,11 @@
 // A sheet: the parts of a reply, the patterns that limit them, and the joins between them.
 #![tactic(auto)]
 
-ghost use Rattle.std.specs.Prelude.{◌≡◌, ◌≤◌, length, take};
+ghost use Rattle.std.specs.Prelude.{◌≤◌, length};
 ghost use Rattle.sheet.specs.Joins.{Acyclic, Known};
 ghost use Rattle.sheet.specs.Patterns.{Among, ForParts};
 
+use arrayvec::ArrayVec;
 use build::{Place, Rows};
 
 mod calls;
@@ -65,26 +66,17 @@ pub enum Refusal {
 // No value of this type has joins with a circle.
 #[derive(Drop)]
 pub struct Sheet {
-    counts: Counts,
-    patterns: [Held; MAX_PATTERNS],
-    joins: [Join; MAX_JOINS],
-    ghost few_parts: { counts.parts ≤ 64 },
-    ghost few_patterns: { counts.patterns ≤ 128 },
-    ghost few_joins: { counts.joins ≤ 64 },
-    ghost few_states: { counts.held.states ≤ 65536 },
-    ghost few_arcs: { counts.held.arcs ≤ 1048576 },
-    ghost long_patterns: { length patterns ≡ 128 },
-    ghost long_joins: { length joins ≡ 64 },
-    ghost for_parts: { ForParts counts.parts (take counts.patterns patterns) },
-    ghost among: { Among counts.held (take counts.patterns patterns) },
-    ghost known: { Known counts.parts (take counts.joins joins) },
-    ghost acyclic: { Acyclic (take counts.joins joins) },
-}
-
-impl Sheet {
-    pub fn counts(&self) -> Counts
-        ensures counted { result ≡ self.now.counts }
-    {
-        self.counts
-    }
+    parts: usize,
+    patterns: ArrayVec<Held, MAX_PATTERNS>,
+    joins: ArrayVec<Join, MAX_JOINS>,
+    held: Rows,
+    ghost few_parts: { parts ≤ 64 },
+    ghost few_patterns: { length patterns.items ≤ 128 },
+    ghost few_joins: { length joins.items ≤ 64 },
+    ghost few_states: { held.states ≤ 65536 },
+    ghost few_arcs: { held.arcs ≤ 1048576 },
+    ghost for_parts: { ForParts parts patterns.items },
+    ghost among: { Among held patterns.items },
+    ghost known: { Known parts joins.items },
+    ghost acyclic: { Acyclic joins.items },
 }
