@@ -7,6 +7,7 @@ use Rattle.std.proofs.lemmas.Bool.{cases_eq, cases_lt, cases_Bool, both_ways, fa
 use Rattle.alphabet.specs.Labels.{Labels, Lawful, Empty, Least}
 use Rattle.automaton.specs.declared.Arc.{Arc}
 use Rattle.automaton.specs.Automaton.{Automaton, Word, Walk, stay, step, Accepts, initial, accepting, unmarked, arc_at}
+use Rattle.automaton.proofs.Realizing.{initial_below, accepting_below}
 use Rattle.words.specs.Layers.{count, Leads, Rises, Layered, Begun, Settled, Upto, Complete, Round}
 
 pub count_low : (f : ℕ → ℕ) (n : ℕ) → count f n ≤ n
@@ -39,13 +40,6 @@ count_more f g (suc n) q low was is other =
     (λ same. omega (arith, ap f same, ap g same, count_below f g n (λ r below. other r (λ e. omega arith))))
     (λ ne. omega (arith, other n (λ e. ne (sym e)), count_more f g n q (omega arith) was is other)) (cases_eq q n)
 
--- a state that is not there has no mark
-pub initial_low : {L : Type 0} (m : Automaton L) (q : ℕ) → initial m q ≡ true → q < length m.states
-initial_low m q e = ⊎_elim (λ low. low) (λ past. absurd (both_ways _ (ap (λ s. s.initial) (get_or_past m.states q unmarked past)) e)) (cases_lt q (length m.states))
-
-pub accepting_low : {L : Type 0} (m : Automaton L) (q : ℕ) → accepting m q ≡ true → q < length m.states
-accepting_low m q e = ⊎_elim (λ low. low) (λ past. absurd (both_ways _ (ap (λ s. s.accepting) (get_or_past m.states q unmarked past)) e)) (cases_lt q (length m.states))
-
 -- what a round has done after k arcs
 pub record Rounding {L : Type 0} (a : Labels L) (m : Automaton L) (n : ℕ) (f g : ℕ → ℕ) (top k : ℕ) (more : Bool) : Type 0 where
   pub layered : Layered a m n g
@@ -62,7 +56,7 @@ module _ {L : Type 0} (a : Labels L) (m : Automaton L) (n : ℕ) where
       let layer_of : (q : ℕ) → q < n → ((f q ≡ 1) × (accepting m q ≡ true)) ⊎ (f q ≡ 0) = λ q low. ⊎_elim (λ yes'. inl (begun q low ∙ ap (λ b. cond b 1 0) yes', yes')) (λ no. inr (begun q low ∙ ap (λ b. cond b 1 0) no)) (cases_Bool (accepting m q)) in
       record {
         layered = record {
-          based = λ q yes'. let is : f q ≡ 1 = begun q (omega (arith, accepting_low m q yes')) ∙ ap (λ b. cond b 1 0) yes' in omega arith;
+          based = λ q yes'. let is : f q ≡ 1 = begun q (omega (arith, accepting_below m q yes')) ∙ ap (λ b. cond b 1 0) yes' in omega arith;
           each = λ q low. ⊎_elim (λ one. inr (inl one)) (λ none. inl none) (layer_of q low);
           low = λ q low. ⊎_elim (λ one. omega (arith, one.0, count_some f n q low (omega (arith, one.0)))) (λ none. omega arith) (layer_of q low);
         };
@@ -202,4 +196,4 @@ module _ {L : Type 0} {a : Labels L} (laws : Lawful a) where
     walk_layered (step b has from yes' rest) ends = subst (λ x. 0 < f x) from (h.closed b has (admitted_first yes') (walk_layered rest ends))
 
     pub none_accepted : length m.states ≡ n → ((q : ℕ) → q < n → initial m q ≡ true → f q ≡ 0) → (w : Word) → Accepts a.admits m w → ⊥
-    none_accepted long none w x = omega (arith, walk_layered x.walk x.ends, none x.start (omega (arith, initial_low m x.start x.starts)) x.starts)
+    none_accepted long none w x = omega (arith, walk_layered x.walk x.ends, none x.start (omega (arith, initial_below m x.start x.starts)) x.starts)

@@ -1,30 +1,15 @@
 -- Layers of states: one more than the letters of a word that leads to an accepting state, or 0 where none is known.
-use Rattle.std.specs.Prelude.{◌≡◌, ℕ, zero, suc, ◌+◌, ◌<◌, ◌≤◌, min, Bool, true, false, cond, ◌⊎◌, List, length, is_some, ◌≢◌, slice_index_or}
+use Rattle.std.specs.Prelude.{◌≡◌, ℕ, zero, suc, ◌+◌, ◌<◌, ◌≤◌, min, Bool, true, false, cond, ◌⊎◌, List, is_some}
 use Rattle.std.specs.List.{ContainsAt as Has}
 use Rattle.alphabet.specs.Labels.{Labels}
 use Rattle.automaton.specs.declared.State.{State}
 use Rattle.automaton.specs.declared.Arc.{Arc}
-use Rattle.automaton.specs.Automaton.{Automaton, unmarked, initial, accepting}
-use Rattle.build.specs.declared.Place.{Place}
-use Rattle.build.specs.Tables.{part}
-use Rattle.words.specs.Words.{Renumbered}
+use Rattle.automaton.specs.Automaton.{Automaton, initial, accepting}
+use Rattle.words.specs.States.{row}
 
 -- the layer of a state stands in the first number of its row
-abbrev pub layer : List State → Place → ℕ → ℕ
-layer states p q = (slice_index_or states (p.first.states + q) (record { marks = unmarked; left = 0; right = 0 })).left
-
--- the layer of one state was written
-pub record Relayered (p : Place) (q v : ℕ) (before after : List State) : Type 0 where
-  pub renumbered : Renumbered p.first.states before after
-  pub here : layer after p q ≡ v
-  pub elsewhere : (r : ℕ) → (r ≢ q) → layer after p r ≡ layer before p r
-
--- the rows of an automaton lie in the tables, and its arcs lead from state to state
-pub record Fit {L : Type 0} (states : List State) (arcs : List (Arc L)) (p : Place) : Type 0 where
-  pub states_fit : p.first.states + p.count.states ≤ length states
-  pub arcs_fit : p.first.arcs + p.count.arcs ≤ length arcs
-  pub few : p.count.states ≤ 65536
-  pub inside : (b : Arc L) → Has (part arcs p.first.arcs p.count.arcs) b → (b.from < p.count.states) × (b.to < p.count.states)
+abbrev pub layer : List State → ℕ → ℕ
+layer states q = (row states q).left
 
 -- how many of the first n states have a layer
 unfoldable pub count : (ℕ → ℕ) → ℕ → ℕ

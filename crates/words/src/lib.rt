@@ -1,7 +1,7 @@
 // Words of automata that lie in lent rows.
 #![tactic(auto)]
 
+mod machine;
 pub mod membership;
-mod rows;
 pub mod shortest;
 pub mod splitting;

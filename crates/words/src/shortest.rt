@@ -1,134 +1,33 @@
 // A word of an automaton, found by layers of states: from the accepting ones back along the arcs.
-ghost use Rattle.std.specs.Prelude.{◌≡◌, ℕ, ◌+◌, ◌<◌, ◌≤◌, true, false, length, is_some, Decides, MatchOption};
-ghost use Rattle.automaton.specs.Automaton.{Word, Accepts, initial};
-ghost use Rattle.build.specs.Tables.{part, at, arc_in, InUse, Stands};
-ghost use Rattle.words.specs.Layers.{layer as layer_of, Fit, Begun, Leads, Rises, Layered, Upto, Complete, Round, Start};
+ghost use Rattle.std.specs.Prelude.{◌≡◌, ℕ, ◌+◌, ◌<◌, ◌≤◌, true, map, length, take, drop, is_some, None, IfSome, Decides, MatchOption};
+ghost use Rattle.std.specs.List.{ContainsAt as Has};
+ghost use Rattle.automaton.specs.Automaton.{Word, Accepts, initial, of_rows};
+ghost use Rattle.build.specs.Tables.{part, at, InUse, Stands};
+ghost use Rattle.words.specs.Layers.{layer, Begun, Leads, Rises, Layered, Upto, Complete, Round, Start};
+ghost use Rattle.words.specs.Machines.{automaton, SameMachine};
 ghost use Rattle.words.specs.Shortest.{Wrote};
+ghost use Rattle.words.specs.States.{LeadWithin};
 ghost use Rattle.words.specs.Words.{Renumbered};
 
-use crate::rows::{arc, layer, marks, set_layer};
+use crate::machine::Machine;
 use alphabet::Alphabet;
 use automaton::{Arc, State};
 use build::{Place, Rows, operand};
 
-// Gives the accepting states the layer 1, and the others none.
-fn begin<A: Alphabet>(states: &mut [State], arcs: &[Arc<A::Label>], p: Place)
-    requires { Fit states.old arcs.now p }
-    ensures begins { Begun (at states.old arcs.now p) p.count.states (layer_of states.new p) }
-    ensures renumbers { Renumbered p.first.states states.old states.new }
+// Whether an arc has a letter, and leads from a state without a layer to one of the layer `top`.
+fn rises<A: Alphabet>(states: &[State], arc: &Arc<A::Label>, top: usize) -> bool
+    requires within { (arc.now.from < length states.now) × (arc.now.to < length states.now) }
+    ensures decides { Decides result (Rises A.Alphabet.labels (layer states.now) top arc.now) }
 {
-    for q in 0..p.count.states {
-        let layer = if marks(states, p, q).accepting { 1 } else { 0 };
-        set_layer(states, p, q, layer);
-    }
+    states[arc.from].left == 0 && states[arc.to].left == top && A::first(&arc.label).is_some()
 }
 
-// Whether an arc with a letter leads from a state without a layer to one of the layer.
-fn rises<A: Alphabet>(
-    states: &[State],
-    arcs: &[Arc<A::Label>],
-    p: Place,
-    top: usize,
-    k: usize,
-) -> bool
-    requires { (Fit states.now arcs.now p) × (k < p.count.arcs) }
-    ensures decides { Decides result (Rises A.Alphabet.labels (layer_of states.now p) top (arc_in A.Alphabet.labels arcs.now p k)) }
+// Whether an arc has a letter, and leads from q to a state of a layer.
+fn leads<A: Alphabet>(states: &[State], arc: &Arc<A::Label>, q: usize, next: usize) -> bool
+    requires within { arc.now.to < length states.now }
+    ensures decides { Decides result (Leads A.Alphabet.labels (layer states.now) q next arc.now) }
 {
-    let b = arc(arcs, p, k);
-    layer(states, p, b.from) == 0 && layer(states, p, b.to) == top && A::first(&b.label).is_some()
-}
-
-// Gives the next layer to each state without one from which an arc with a letter leads to the layer `top`.
-// Answers whether there were any.
-fn round<A: Alphabet>(states: &mut [State], arcs: &[Arc<A::Label>], p: Place, top: usize) -> bool
-    requires fit { (Fit states.old arcs.now p) × ((0 < top) × (top ≤ 65537)) }
-    requires upto { Upto A.Alphabet.labels (at states.old arcs.now p) p.count.states (layer_of states.old p) top }
-    ensures layers { Round A.Alphabet.labels (at states.old arcs.now p) p.count.states (layer_of states.old p) (layer_of states.new p) top result }
-    ensures renumbers { Renumbered p.first.states states.old states.new }
-{
-    let mut more = false;
-    for k in 0..p.count.arcs {
-        if rises::<A>(states, arcs, p, top, k) {
-            set_layer(states, p, arc(arcs, p, k).from, top + 1);
-            more = true;
-        }
-    }
-    more
-}
-
-// Gives each state from which a word leads to an accepting state its layer.
-fn layers<A: Alphabet>(states: &mut [State], arcs: &[Arc<A::Label>], p: Place)
-    requires { Fit states.old arcs.now p }
-    ensures completes { Complete A.Alphabet.labels (at states.old arcs.now p) p.count.states (layer_of states.new p) }
-    ensures renumbers { Renumbered p.first.states states.old states.new }
-{
-    begin::<A>(states, arcs, p);
-    let mut top = 1;
-    while round::<A>(states, arcs, p, top) {
-        top += 1;
-    }
-}
-
-// Whether a layer is lower than the least so far, where 0 is none.
-fn lower(layer: usize, least: usize) -> bool
-    ensures some { result ≡ true → 0 < layer }
-    ensures none { result ≡ false → least ≡ 0 → layer ≡ 0 }
-{
-    layer > 0 && (least == 0 || layer < least)
-}
-
-// An initial state of the lowest layer.
-fn start<A: Alphabet>(states: &[State], arcs: &[Arc<A::Label>], p: Place) -> Option<usize>
-    requires { Fit states.now arcs.now p }
-    ensures finds { MatchOption result ((q : ℕ) → q < p.count.states → initial (at states.now arcs.now p) q ≡ true → layer_of states.now p q ≡ 0)
-        (Start (at states.now arcs.now p) p.count.states (layer_of states.now p)) }
-{
-    let mut best = 0;
-    let mut least = 0;
-    for q in 0..p.count.states {
-        let layer = layer(states, p, q);
-        if marks(states, p, q).initial && lower(layer, least) {
-            best = q;
-            least = layer;
-        }
-    }
-    if least == 0 { None } else { Some(best) }
-}
-
-// Whether an arc with a letter leads from q to the layer.
-fn leads<A: Alphabet>(
-    states: &[State],
-    arcs: &[Arc<A::Label>],
-    p: Place,
-    q: usize,
-    next: usize,
-    k: usize,
-) -> bool
-    requires { (Fit states.now arcs.now p) × (k < p.count.arcs) }
-    ensures decides { Decides result (Leads A.Alphabet.labels (layer_of states.now p) q next (arc_in A.Alphabet.labels arcs.now p k)) }
-{
-    let b = arc(arcs, p, k);
-    b.from == q && layer(states, p, b.to) == next && A::first(&b.label).is_some()
-}
-
-// The first arc with a letter that leads from q to the layer.
-fn down<A: Alphabet>(
-    states: &[State],
-    arcs: &[Arc<A::Label>],
-    p: Place,
-    q: usize,
-    next: usize,
-) -> usize
-    requires fit { Fit states.now arcs.now p }
-    requires by_index { (k : ℕ) × (k < p.count.arcs) × Leads A.Alphabet.labels (layer_of states.now p) q next (arc_in A.Alphabet.labels arcs.now p k) }
-    ensures within { result < p.count.arcs }
-    ensures leads { Leads A.Alphabet.labels (layer_of states.now p) q next (arc_in A.Alphabet.labels arcs.now p result) }
-{
-    let mut k = 0;
-    while !leads::<A>(states, arcs, p, q, next, k) {
-        k += 1;
-    }
-    k
+    arc.from == q && states[arc.to].left == next && A::first(&arc.label).is_some()
 }
 
 // The first letter of a label that has one.
@@ -139,37 +38,130 @@ fn letter<A: Alphabet>(label: &A::Label) -> u32
     A::first(label).unwrap_or(0)
 }
 
-// Writes the letters on the way down from a state, and answers how many there are.
-fn spell<A: Alphabet>(
-    states: &[State],
-    arcs: &[Arc<A::Label>],
-    p: Place,
-    first: usize,
-    words: &mut [u32],
-    to: usize,
-) -> usize
-    requires fit { (Fit states.now arcs.now p) × (Layered A.Alphabet.labels (at states.now arcs.now p) p.count.states (layer_of states.now p)) }
-    requires start { (Start (at states.now arcs.now p) p.count.states (layer_of states.now p) first) × (to + p.count.states ≤ length words.old + 1) }
-    ensures short { (result < p.count.states) × (to + result ≤ length words.old) }
-    ensures accepted { Accepts A.Alphabet.labels.admits (at states.now arcs.now p) (part words.new to result) }
-    ensures wrote { Wrote to result words.old words.new }
-{
-    let letters = layer(states, p, first) - 1;
-    let mut q = first;
-    for i in 0..letters {
-        let b = arc(arcs, p, down::<A>(states, arcs, p, q, letters - i));
-        words[to + i] = letter::<A>(&b.label);
-        q = b.to;
+impl<L: Copy> Machine<'_, L> {
+    // Gives the accepting states the layer 1, and the others none.
+    fn begin_layers(&mut self)
+        ensures begins { Begun (automaton self.old) (length self.old.states.now) (layer self.new.states.now) }
+        ensures same { SameMachine self.old self.new }
+    {
+        self.renumber(|state| usize::from(state.marks.accepting));
     }
-    letters
+
+    // Gives the next layer to each state without one from which an arc with a letter leads to the layer `top`.
+    // Answers whether there were any.
+    fn round<A: Alphabet<Label = L>>(&mut self, top: usize) -> bool
+        requires fits { (0 < top) × (top ≤ length self.old.states.now + 1) }
+        requires upto { Upto A.Alphabet.labels (automaton self.old) (length self.old.states.now) (layer self.old.states.now) top }
+        ensures layers { Round A.Alphabet.labels (automaton self.old) (length self.old.states.now) (layer self.old.states.now) (layer self.new.states.now) top result }
+        ensures same { SameMachine self.old self.new }
+    {
+        let states = &mut *self.states;
+        let mut more = false;
+        for arc in self.arcs {
+            if rises::<A>(states, arc, top) {
+                states[arc.from].left = top + 1;
+                more = true;
+            }
+        }
+        more
+    }
+
+    // Gives each state from which a word leads to an accepting state its layer.
+    fn layers<A: Alphabet<Label = L>>(&mut self)
+        ensures completes { Complete A.Alphabet.labels (automaton self.old) (length self.old.states.now) (layer self.new.states.now) }
+        ensures same { SameMachine self.old self.new }
+    {
+        self.begin_layers();
+        let mut top = 1;
+        while self.round::<A>(top) {
+            top += 1;
+        }
+    }
+
+    // Whether the layer is lower than that of the best state so far.
+    fn lower(&self, layer: usize, best: Option<usize>) -> bool
+        requires within { IfSome best (λ b. b < length self.now.states.now) }
+        ensures none { best ≡ None → result ≡ true }
+    {
+        match best {
+            None => true,
+            Some(b) => layer < self.states[b].left,
+        }
+    }
+
+    // An initial state of the lowest layer.
+    fn start(&self) -> Option<usize>
+        ensures finds { MatchOption result ((q : ℕ) → q < length self.now.states.now → initial (automaton self.now) q ≡ true → layer self.now.states.now q ≡ 0)
+            (Start (automaton self.now) (length self.now.states.now) (layer self.now.states.now)) }
+    {
+        let mut best = None;
+        for (q, state) in self.states.iter().enumerate() {
+            if state.marks.initial && state.left > 0 && self.lower(state.left, best) {
+                best = Some(q);
+            }
+        }
+        best
+    }
+
+    // The first arc with a letter that leads from q to a layer.
+    fn down<A: Alphabet<Label = L>>(&self, q: usize, next: usize) -> Option<&Arc<L>>
+        ensures finds { MatchOption result ((b : Arc L) → Has self.now.arcs.now b → Leads A.Alphabet.labels (layer self.now.states.now) q next b → ⊥)
+            (λ b. Has self.now.arcs.now b.now × Leads A.Alphabet.labels (layer self.now.states.now) q next b.now) }
+    {
+        for arc in self.arcs {
+            if leads::<A>(self.states, arc, q, next) {
+                return Some(arc);
+            }
+        }
+        None
+    }
+    // Writes the letters on the way down from a state, and answers how many there are.
+    fn spell<A: Alphabet<Label = L>>(&self, first: usize, words: &mut [u32], to: usize) -> usize
+        requires layered { Layered A.Alphabet.labels (automaton self.now) (length self.now.states.now) (layer self.now.states.now) }
+        requires start { Start (automaton self.now) (length self.now.states.now) (layer self.now.states.now) first }
+        requires room { to + length self.now.states.now ≤ length words.old + 1 }
+        ensures short { result < length self.now.states.now }
+        ensures accepted { Accepts A.Alphabet.labels.admits (automaton self.now) (part words.new to result) }
+        ensures wrote { Wrote to result words.old words.new }
+    {
+        let letters = self.states[first].left - 1;
+        let mut q = first;
+        for i in 0..letters {
+            let Some(arc) = self.down::<A>(q, letters - i) else {
+                unreachable!()
+            };
+            words[to + i] = letter::<A>(&arc.label);
+            q = arc.to;
+        }
+        letters
+    }
 }
 
 // Whether a word of fewer than n letters has room from a place on.
 fn has_room(words: &[u32], to: usize, n: usize) -> bool
     ensures decides { Decides result (to + n ≤ length words.now + 1) }
 {
-    let room = words.len() + 1;
-    n <= room && to <= room - n
+    to.checked_add(n).is_some_and(|end| end <= words.len() + 1)
+}
+
+// A word that the automaton in these rows accepts, written into the words from `to` on.
+fn find_in<A: Alphabet>(
+    states: &mut [State],
+    arcs: &[Arc<A::Label>],
+    words: &mut [u32],
+    to: usize,
+) -> Option<usize>
+    requires inside { LeadWithin arcs.now (length states.old) }
+    requires room { to + length states.old ≤ length words.old + 1 }
+    ensures finds { MatchOption result
+        (((w : Word) → Accepts A.Alphabet.labels.admits (of_rows states.old arcs.now) w → ⊥) × (words.new ≡ words.old))
+        (λ n. (n < length states.old) × Accepts A.Alphabet.labels.admits (of_rows states.old arcs.now) (part words.new to n) × Wrote to n words.old words.new) }
+    ensures same_marks { map (λ s. s.marks) states.new ≡ map (λ s. s.marks) states.old }
+{
+    let mut machine = Machine { states, arcs };
+    machine.layers::<A>();
+    let first = machine.start()?;
+    Some(machine.spell::<A>(first, words, to))
 }
 
 // A word that the automaton at a place accepts, written into the words from `to` on; shorter than the automaton has states.
@@ -190,9 +182,11 @@ pub fn find<A: Alphabet>(
     if !operand::stands(states, arcs, used, p) || !has_room(words, to, p.count.states) {
         return None;
     }
-    layers::<A>(states, arcs, p);
-    let Some(first) = start::<A>(states, arcs, p) else {
-        return None;
-    };
-    Some(spell::<A>(states, arcs, p, first, words, to))
+    let end = p.end();
+    find_in::<A>(
+        &mut states[p.first.states..end.states],
+        &arcs[p.first.arcs..end.arcs],
+        words,
+        to,
+    )
 }

@@ -1,54 +1,48 @@
-use Rattle.std.proofs.Common.{sym, refl, ap, ◌∙◌, subst}
-use Rattle.automaton.specs.Automaton.{Accepts, initial}
-use Rattle.build.specs.Tables.{at, part}
-use Rattle.words.specs.Layers.{layer, Layered}
-use Rattle.words.proofs.Layers.{none_accepted}
-use Rattle.words.proofs.Relayering.{fit_renumbered, fit_stands, count_states}
-use Rattle.words.proofs.Renumbering.{at_renumbered}
+use Rattle.std.proofs.Common.{◌≡◌, ℕ, ◌+◌, ◌<◌, ◌≤◌, length, take, drop, Option, Some, None, MatchOption, sym, subst₂, arith}
+use Rattle.automaton.specs.Automaton.{Word, Accepts, of_rows}
+use Rattle.build.specs.Tables.{part}
+use Rattle.build.proofs.Parts.{length_part}
+use Rattle.words.specs.Shortest.{Wrote}
+use Rattle.words.specs.States.{LeadWithin}
+use Rattle.words.proofs.Cutting.{lead_within, states_end, arcs_end, renumbered_part}
 use Rattle.words.proofs.shortest.find.Goals as goal
 
-pub layers-requires : goal.layers-requires
-layers-requires g c =
-    let both = c.stands.ensures.decides.0 c.if-not-stands.false in
-    fit_stands c.args.states.now c.args.arcs.now c.args.used c.args.p both.0 both.1
+onward : {A B : Type 0} {P Q : ℕ → Type 0} (r : Option ℕ) → (A → B) → ((n : ℕ) → P n → Q n) → MatchOption r A P → MatchOption r B Q
+onward None f g a = f a
+onward (Some n) f g p = g n p
 
-pub start-requires : goal.start-requires
-start-requires g c =
-    let both = c.stands.ensures.decides.0 c.if-not-stands.false in
-    fit_renumbered c.args.arcs.now c.args.p c.layers.ensures.renumbers (fit_stands c.args.states.now c.args.arcs.now c.args.used c.args.p both.0 both.1)
-
-pub returns-in_default : goal.returns-in_default
-returns-in_default g c =
+pub find_in-requires-clause-inside : goal.find_in-requires-clause-inside
+find_in-requires-clause-inside g c =
     let s = c.args.states.now in
-    let t = c.layers.new.states in
-    let arcs = c.args.arcs.now in
+    let b = c.args.arcs.now in
     let p = c.args.p in
-    let m = at s arcs p in
     let both = c.stands.ensures.decides.0 c.if-not-stands.false in
-    let fit = fit_stands s arcs c.args.used p both.0 both.1 in
-    let same = at_renumbered _ _ _ arcs c.layers.ensures.renumbers p in
-    record {
-      finds = (
-        λ _ _ _ w x. none_accepted g.met.A.Alphabet.lawful m p.count.states (layer t p) c.layers.ensures.completes (count_states s arcs p fit) (λ q low yes'. c.in_default.ensures.finds q low (ap (λ k. initial k q) same ∙ yes')) w x,
-        refl,
-      );
-      renumbers = c.layers.ensures.renumbers;
-    }
+    let e = c.end-end.ensures.ends in
+    subst₂ (λ (i j : ℕ). LeadWithin (take i (drop p.first.arcs b)) (length (take j (drop p.first.states s)))) (sym (arcs_end s b c.args.used p both.0 both.1 _ e)) (sym (states_end s b c.args.used p both.0 both.1 _ e)) (lead_within _ _ both.1.inside)
 
-pub spell-requires : goal.spell-requires
-spell-requires g c =
-    let arcs = c.args.arcs.now in
+pub returns-clause-finds : goal.returns-clause-finds
+returns-clause-finds g c =
+    let s = c.args.states.now in
+    let b = c.args.arcs.now in
     let p = c.args.p in
-    let t = c.layers.new.states in
+    let words = c.args.words.now in
+    let new = c.find_in.new.words in
+    let to = c.args.to in
     let both = c.stands.ensures.decides.0 c.if-not-stands.false in
-    let fit = fit_stands c.args.states.now arcs c.args.used p both.0 both.1 in
-    let same = at_renumbered _ _ _ arcs c.layers.ensures.renumbers p in record { fit = (fit_renumbered arcs p c.layers.ensures.renumbers fit, subst (λ m. Layered g.A.Alphabet.labels m p.count.states (layer t p)) (sym same) c.layers.ensures.completes.layered); start = (c.in-Some.ensures.finds, c.has_room.ensures.decides.0 c.if-not-has_room.false) }
+    let room = c.has_room.ensures.decides.0 c.if-not-has_room.false in
+    let e = c.end-end.ensures.ends in
+    let admits = g.A.Alphabet.labels.admits in
+    let fits : p.first.states + p.count.states ≤ length s = omega (arith, both.0.states_fit, both.1.lies.states) in
+    let long = length_part s p.first.states p.count.states fits in
+    let found = subst₂ (λ (i j : ℕ). let m = of_rows (take j (drop p.first.states s)) (take i (drop p.first.arcs b)) in
+    MatchOption c.find_in.result (((w : Word) → Accepts admits m w → ⊥) × (new ≡ words)) (λ n. (n < length (take j (drop p.first.states s))) × Accepts admits m (part new to n) × Wrote to n words new))
+    (arcs_end s b c.args.used p both.0 both.1 _ e) (states_end s b c.args.used p both.0 both.1 _ e) c.find_in.ensures.finds in
+    onward c.find_in.result (λ none. (λ _ _ _. none.0, none.1)) (λ n h. (omega (arith, h.0), omega (arith, h.0, room), h.1, h.2)) found
 
-pub returns : goal.returns
-returns g c =
-    let same = at_renumbered _ _ _ c.args.arcs.now c.layers.ensures.renumbers c.args.p in
-    let spelt = c.spell.ensures in
-    record {
-      finds = (spelt.short.0, spelt.short.1, subst (λ m. Accepts g.A.Alphabet.labels.admits m (part c.spell.new.words c.args.to c.spell.result)) same spelt.accepted, spelt.wrote);
-      renumbers = c.layers.ensures.renumbers;
-    }
+pub returns-clause-renumbers : goal.returns-clause-renumbers
+returns-clause-renumbers g c =
+    let s = c.args.states.now in
+    let p = c.args.p in
+    let both = c.stands.ensures.decides.0 c.if-not-stands.false in
+    let n = states_end s c.args.arcs.now c.args.used p both.0 both.1 _ c.end-end.ensures.ends in
+    renumbered_part p.first.states _ s c.find_in.new.states (omega (arith, n, both.0.states_fit, both.1.lies.states)) c.find_in.ensures.same_marks

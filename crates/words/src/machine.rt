@@ -1,0 +1,35 @@
+// An automaton in its own rows, whose two numbers are working marks.
+ghost use Rattle.std.specs.Prelude.{◌≡◌, ℕ, ◌<◌, length};
+ghost use Rattle.words.specs.States.{row, LeadWithin};
+
+use automaton::{Arc, State};
+
+// Every arc leads from a state to a state.
+#[derive(Drop)]
+pub struct Machine<'a, L> {
+    pub states: &'a mut [State],
+    pub arcs: &'a [Arc<L>],
+    ghost inside: { LeadWithin arcs.now (length states.now) },
+}
+
+impl<L: Copy> Machine<'_, L> {
+    ghost use Rattle.words.specs.Machines.{SameMachine};
+
+    // The first number of each row becomes what a function says of the row, and the second 0.
+    pub fn renumber<F: Fn(State) -> usize>(&mut self, number: F)
+        requires callable { F.IsAlwaysCallable number }
+        ensures numbers { (q : ℕ) → q < length self.old.states.now → F.post number (row self.old.states.now q) (row self.new.states.now q).left }
+        ensures clears { (q : ℕ) → q < length self.old.states.now → (row self.new.states.now q).right ≡ 0 }
+        ensures same { SameMachine self.old self.new }
+    {
+        let states = &mut *self.states;
+        for q in 0..states.len() {
+            let state = states[q];
+            states[q] = State {
+                left: number(state),
+                right: 0,
+                ..state
+            };
+        }
+    }
+}
