@@ -2,11 +2,10 @@
 use Rattle.std.proofs.Common.{◌≡◌, ℕ, zero, suc, ◌+◌, ◌<◌, ◌≤◌, Bool, true, false, cond, ◌⊎◌, length, is_some, Some, None, Option, sym, refl, ap, ◌∙◌, subst, inl, inr, ⊎_elim, arith, MatchOption}
 use Rattle.std.specs.List.{ContainsAt as Has}
 use Rattle.std.proofs.ByRecursion.{has_get_or}
-use Rattle.std.proofs.lemmas.List.{get_or_past}
 use Rattle.std.proofs.lemmas.Bool.{cases_eq, cases_lt, cases_Bool, both_ways, false≢true}
 use Rattle.alphabet.specs.Labels.{Labels, Lawful, Empty, Least}
 use Rattle.automaton.specs.declared.Arc.{Arc}
-use Rattle.automaton.specs.Automaton.{Automaton, Word, Walk, stay, step, Accepts, initial, accepting, unmarked, arc_at}
+use Rattle.automaton.specs.Automaton.{Automaton, Word, Walk, stay, step, Accepts, initial, accepting, arc_at}
 use Rattle.automaton.proofs.Realizing.{initial_below, accepting_below}
 use Rattle.words.specs.Layers.{count, Leads, Rises, Layered, Begun, Settled, Upto, Complete, Round}
 

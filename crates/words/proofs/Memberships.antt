@@ -1,5 +1,5 @@
 -- What a run of an automaton along a word keeps.
-use Rattle.std.proofs.Common.{◌≡◌, ℕ, ◌+◌, ◌<◌, Bool, true, cond, ◌↔◌, List, [], ◌∷◌, ◌++◌, map, length, get_or, set, Decides, sym, refl, ap, ◌∙◌, subst, ⊎_elim, arith}
+use Rattle.std.proofs.Common.{◌≡◌, ℕ, ◌+◌, ◌<◌, Bool, true, ◌↔◌, List, [], ◌∷◌, ◌++◌, map, length, set, Decides, sym, refl, ap, ◌∙◌, subst, ⊎_elim, arith}
 use Rattle.std.specs.List.{ContainsAt as Has}
 use Rattle.std.proofs.ByRecursion.{has_get_or}
 use Rattle.std.proofs.lemmas.List.{length-map, get_or-set_same, get_or-set_other}
@@ -12,7 +12,7 @@ use Rattle.automaton.proofs.Walks.{walk_nil, walk_split, walk_push, walk_letter}
 use Rattle.automaton.proofs.Realizing.{accepting_below}
 use Rattle.build.specs.Concats.{blank}
 use Rattle.words.specs.States.{row, LeadWithin}
-use Rattle.words.specs.Membership.{Clear, Begun, Fired, Followed, Advanced, Reached, SomeAccepts}
+use Rattle.words.specs.Membership.{Begun, Fired, Followed, Advanced, Reached, SomeAccepts}
 use Rattle.words.proofs.States.{marks_row}
 
 -- a state of the next set

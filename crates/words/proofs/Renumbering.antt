@@ -1,7 +1,6 @@
 -- What rows whose numbers alone differ still say.
-use Rattle.std.proofs.Common.{◌≡◌, ℕ, ◌≤◌, List, map, length, get_or, take, drop, set, sym, refl, ap, ◌∙◌, subst, arith}
-use lib.Seq.{map-set_same}
-use Rattle.std.proofs.lemmas.List.{length-map, take-take, take-set-le, take-map, drop-map}
+use Rattle.std.proofs.Common.{◌≡◌, ℕ, ◌≤◌, List, map, length, take, drop, sym, refl, ap, ◌∙◌, subst, arith}
+use Rattle.std.proofs.lemmas.List.{length-map, take-take, take-map, drop-map}
 use Rattle.automaton.specs.declared.Arc.{Arc}
 use Rattle.automaton.specs.declared.Marks.{Marks}
 use Rattle.automaton.specs.declared.State.{State}
@@ -23,10 +22,6 @@ renumbered_back n xs ys h = record { marks = sym h.marks; front = sym h.front }
 -- fewer rows are kept
 pub renumbered_less : (n m : ℕ) (xs ys : List State) → m ≤ n → Renumbered n xs ys → Renumbered m xs ys
 renumbered_less n m xs ys low h = record { marks = h.marks; front = sym (take-take m n ys low) ∙ ap (take m) h.front ∙ take-take m n xs low }
-
--- a row is written with its own marks
-pub renumbered_set : (n i : ℕ) (xs : List State) (x d : State) → n ≤ i → x.marks ≡ (get_or xs i d).marks → Renumbered n xs (set xs i x)
-renumbered_set n i xs x d low same = record { marks = map-set_same (λ (s : State). s.marks) xs i x d same; front = take-set-le n xs i x low }
 
 pub length-renumbered : (n : ℕ) (xs ys : List State) → Renumbered n xs ys → length ys ≡ length xs
 length-renumbered n xs ys h = sym (length-map ys (λ (s : State). s.marks)) ∙ ap length h.marks ∙ length-map xs (λ (s : State). s.marks)

@@ -1,4 +1,4 @@
-// An automaton in its own rows, whose two numbers are working marks.
+// An automaton in its own rows. The two numbers of a row are working marks, since there is no memory but the lent rows.
 ghost use Rattle.std.specs.Prelude.{◌≡◌, ℕ, ◌<◌, length};
 ghost use Rattle.words.specs.States.{row, LeadWithin};
 

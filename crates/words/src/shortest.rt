@@ -50,7 +50,8 @@ impl<L: Copy> Machine<'_, L> {
     // Gives the next layer to each state without one from which an arc with a letter leads to the layer `top`.
     // Answers whether there were any.
     fn round<A: Alphabet<Label = L>>(&mut self, top: usize) -> bool
-        requires fits { (0 < top) × (top ≤ length self.old.states.now + 1) }
+        requires above { 0 < top }
+        requires low { top ≤ length self.old.states.now + 1 }
         requires upto { Upto A.Alphabet.labels (automaton self.old) (length self.old.states.now) (layer self.old.states.now) top }
         ensures layers { Round A.Alphabet.labels (automaton self.old) (length self.old.states.now) (layer self.old.states.now) (layer self.new.states.now) top result }
         ensures same { SameMachine self.old self.new }
@@ -94,6 +95,7 @@ impl<L: Copy> Machine<'_, L> {
         ensures finds { MatchOption result ((q : ℕ) → q < length self.now.states.now → initial (automaton self.now) q ≡ true → layer self.now.states.now q ≡ 0)
             (Start (automaton self.now) (length self.now.states.now) (layer self.now.states.now)) }
     {
+        // a loop: the proof of `filter` and `min_by_key` over the states didn't close
         let mut best = None;
         for (q, state) in self.states.iter().enumerate() {
             if state.marks.initial && state.left > 0 && self.lower(state.left, best) {
@@ -108,6 +110,7 @@ impl<L: Copy> Machine<'_, L> {
         ensures finds { MatchOption result ((b : Arc L) → Has self.now.arcs.now b → Leads A.Alphabet.labels (layer self.now.states.now) q next b → ⊥)
             (λ b. Has self.now.arcs.now b.now × Leads A.Alphabet.labels (layer self.now.states.now) q next b.now) }
     {
+        // a `for`: in a closure passed to `find` it is not known that the arc leads to a state
         for arc in self.arcs {
             if leads::<A>(self.states, arc, q, next) {
                 return Some(arc);
@@ -115,6 +118,7 @@ impl<L: Copy> Machine<'_, L> {
         }
         None
     }
+
     // Writes the letters on the way down from a state, and answers how many there are.
     fn spell<A: Alphabet<Label = L>>(&self, first: usize, words: &mut [u32], to: usize) -> usize
         requires layered { Layered A.Alphabet.labels (automaton self.now) (length self.now.states.now) (layer self.now.states.now) }

@@ -45,7 +45,7 @@ pub fn split<A: Alphabet>(
         × Accepts A.Alphabet.labels.admits (at states.old arcs.now right) (drop i word.now)) }
     ensures renumbers { (n : ℕ) → n ≤ left.first.states → n ≤ right.first.states → Renumbered n states.old states.new }
 {
-    // a `for`: of a closure that writes into the rows a proof learns nothing
+    // a `for`: a proof learns nothing of what a closure passed to `find` writes into the rows
     for i in 0..=word.len() {
         if splits_at::<A>(states, arcs, used, left, right, word, i) {
             return Some(i);

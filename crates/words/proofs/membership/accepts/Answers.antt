@@ -1,4 +1,4 @@
-use Rattle.std.proofs.Common.{ℕ, length, take, drop, Decides, sym, subst, subst₂, arith}
+use Rattle.std.proofs.Common.{ℕ, length, take, drop, Decides, sym, subst₂, arith}
 use Rattle.automaton.specs.Automaton.{Accepts, of_rows}
 use Rattle.words.specs.States.{LeadWithin}
 use Rattle.words.proofs.Cutting.{lead_within, states_end, arcs_end, renumbered_part}

@@ -2,7 +2,7 @@ use Rattle.std.proofs.Common.{ℕ, ◌+◌, ◌<◌, ◌≤◌, arith, below_mor
 use Rattle.std.proofs.lemmas.Bool.{both_ways}
 use Rattle.words.specs.Splitting.{SplitsAt}
 use Rattle.words.specs.Words.{Renumbered}
-use Rattle.words.proofs.Renumbering.{renumbered_none, renumbered_more, renumbered_back}
+use Rattle.words.proofs.Renumbering.{renumbered_more, renumbered_back}
 use Rattle.words.proofs.Splits.{splits_renumbered, splits_never}
 use Rattle.words.proofs.splitting.split.Given as given
 use Rattle.words.proofs.splitting.split.Goals as goal
@@ -21,9 +21,6 @@ never g c =
     (λ s. both_ways _ c.if-splits_at.false
     (c.splits_at.ensures.decides.1 (splits_renumbered admits c.args.arcs.now c.args.used c.args.left c.args.right c.args.word.now 0 c.args.states.now c.loop-i.states (c.loop-i.invariant.0 0 (omega arith) (omega arith)) c.loop-i.i s)))
 
-pub loop-i-init : goal.loop-i-init
-loop-i-init g c = (λ n _ _. renumbered_none n c.args.states.now, λ j low. absurd (omega arith))
-
 pub loop-i-preserved : goal.loop-i-preserved
 loop-i-preserved g c = (more g (goal.at.loop-i-preserved g c).After-splits_at, never g (goal.at.loop-i-preserved g c).Else-splits_at)
 
@@ -36,13 +33,6 @@ returns-then-splits_at g c =
     record {
       finds = (c.loop-i-test.true, s.front, s.back);
       renumbers = more g (goal.at.returns-then-splits_at g c).After-splits_at;
-    }
-
-pub returns : goal.returns
-returns g c =
-    record {
-      finds = splits_never g.A.Alphabet.labels.admits c.args.arcs.now c.args.used c.args.left c.args.right c.args.word.now c.args.states.now (λ i low. c.loop-i.invariant.1 i (omega arith));
-      renumbers = c.loop-i.invariant.0;
     }
 
 pub returns-else-splits_at : goal.returns-else-splits_at

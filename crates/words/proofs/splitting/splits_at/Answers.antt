@@ -1,5 +1,4 @@
 use Rattle.std.proofs.Common.{drop, sym, subst}
-use Rattle.std.proofs.lemmas.Bool.{both_ways}
 use Rattle.automaton.specs.Automaton.{Automaton, Accepts}
 use Rattle.build.specs.Tables.{at}
 use Rattle.words.proofs.Renumbering.{renumbered_more, renumbered_less, renumbered_back, at_renumbered, in_use_renumbered, stands_renumbered}
@@ -39,15 +38,5 @@ returns-then-accepts g c =
       renumbers = λ m low high. renumbered_more m start mid _ (renumbered_less n m start mid low there) (renumbered_less right.first.states m mid _ high c.accepts-then-accepts.ensures.renumbers);
     }
 
-pub returns-else-accepts : goal.returns-else-accepts
-returns-else-accepts g c =
-    let admits = g.A.Alphabet.labels.admits in
-    let left = c.args.left in
-    let start = c.args.states.now in
-    record {
-      decides = (
-        λ e. absurd (both_ways c.accepts.result c.if-accepts.false e),
-        λ s. c.accepts.ensures.decides.1 (s.in_use, s.left_stands, subst (Accepts admits (at start c.args.arcs.now left)) (sym c.split_at.ensures.front) s.front),
-      );
-      renumbers = λ m low high. renumbered_less left.first.states m start c.accepts.new.states low c.accepts.ensures.renumbers;
-    }
+pub returns-else-accepts-clause-renumbers : goal.returns-else-accepts-clause-renumbers
+returns-else-accepts-clause-renumbers g c = λ m low high. renumbered_less c.args.left.first.states m c.args.states.now c.accepts.new.states low c.accepts.ensures.renumbers

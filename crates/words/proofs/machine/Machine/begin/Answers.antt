@@ -1,4 +1,4 @@
-use Rattle.std.proofs.Common.{◌≡◌, ℕ, ◌<◌, cond, length, sym, refl, ap, ◌∙◌, arith, rules}
+use Rattle.std.proofs.Common.{◌≡◌, ◌<◌, cond, length, sym, refl, ap, ◌∙◌, arith, rules}
 use Rattle.words.specs.States.{row}
 use Rattle.words.specs.Machines.{automaton}
 use Rattle.words.proofs.States.{length_marks, marks_row}

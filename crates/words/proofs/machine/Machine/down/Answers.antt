@@ -1,4 +1,3 @@
-use Rattle.std.proofs.Common.{arith}
 use Rattle.words.proofs.States.{arc_ends}
 use Rattle.words.proofs.machine.Machine.down.Goals as goal
 

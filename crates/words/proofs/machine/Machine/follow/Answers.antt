@@ -1,4 +1,4 @@
-use Rattle.std.proofs.Common.{◌≡◌, ◌+◌, ◌<◌, List, length, map, sym, refl, ap, ◌∙◌, subst, arith}
+use Rattle.std.proofs.Common.{◌≡◌, ◌+◌, ◌<◌, List, length, map, sym, refl, ◌∙◌, subst, arith}
 use lib.Seq.{map-set_same}
 use Rattle.std.proofs.lemmas.Bool.{both_ways}
 use Rattle.automaton.specs.declared.State.{State}

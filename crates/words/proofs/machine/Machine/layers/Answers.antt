@@ -1,4 +1,4 @@
-use Rattle.std.proofs.Common.{◌≡◌, ℕ, ◌+◌, ◌-◌, ◌<◌, length, sym, ap, ◌∙◌, subst, subst₂, arith}
+use Rattle.std.proofs.Common.{ℕ, ◌+◌, ◌-◌, ◌<◌, length, sym, subst, subst₂, arith}
 use Rattle.std.proofs.lemmas.List.{length-map}
 use Rattle.automaton.specs.declared.State.{State}
 use Rattle.automaton.specs.Automaton.{Automaton}
@@ -25,12 +25,12 @@ round-requires-clause-upto g c =
     let inv = c.loop-top.invariant in
     subst₂ (λ (m : Automaton g.row.L.Denot) (n : ℕ). Upto g.A.Alphabet.labels m n (layer t.states.now) c.loop-top.top) (sym (same_automaton c.args.self.now t inv.same)) (sym (length_marks c.args.self.now.states.now t.states.now inv.same.marks)) inv.upto
 
-pub round-requires-clause-fits : goal.round-requires-clause-fits
-round-requires-clause-fits g c =
+pub round-requires-clause-low : goal.round-requires-clause-low
+round-requires-clause-low g c =
     let t = c.loop-top.self.states.now in
     let s = c.args.self.now.states.now in
     let inv = c.loop-top.invariant in
-    (inv.above, omega (arith, inv.counted, count_low (layer t) (length s), length_marks s t inv.same.marks))
+    omega (arith, inv.counted, count_low (layer t) (length s), length_marks s t inv.same.marks)
 
 pub overflow_add-top : goal.overflow_add-top
 overflow_add-top g c =

@@ -1,4 +1,4 @@
-use Rattle.std.proofs.Common.{◌≡◌, ℕ, ◌+◌, ◌<◌, Bool, List, length, map, get_or, set, sym, refl, ap, ◌∙◌, subst, subst₂, arith}
+use Rattle.std.proofs.Common.{◌≡◌, ◌+◌, Bool, List, length, map, get_or, set, sym, refl, ap, ◌∙◌, subst, subst₂, arith}
 use lib.Seq.{map-set_same}
 use Rattle.std.proofs.lemmas.List.{get_or-set_same, get_or-set_other}
 use Rattle.std.proofs.lemmas.Bool.{both_ways}
@@ -41,7 +41,7 @@ loop-arc-preserved g c =
           let here : layer (set t b.from x) b.from ≡ top + 1 = ap (λ (s : State). s.left) (get_or-set_same t b.from x blank (omega (arith, both.0))) in
           subst₂ next (sym w.states-is) (sym w.more-is) (record {
             marks = map-set_same (λ (s : State). s.marks) t b.from x blank refl ∙ inv.marks;
-            rounding = rounding_raise a m n s.inside f (layer t) (layer (set t b.from x)) top k c.loop-arc.more c.loop-arc-test.true c.requires.fits.0 inv.rounding (subst (Rises a (layer t) top) is (c.rises.ensures.decides.0 w.if-rises.true))
+            rounding = rounding_raise a m n s.inside f (layer t) (layer (set t b.from x)) top k c.loop-arc.more c.loop-arc-test.true c.requires.above inv.rounding (subst (Rises a (layer t) top) is (c.rises.ensures.decides.0 w.if-rises.true))
                 (ap (λ (y : _). layer (set t b.from x) y) (sym (ap (λ (y : _). y.from) is)) ∙ here)
                 (λ r other. ap (λ (s : State). s.left) (get_or-set_other t b.from r x blank (λ e. other (e ∙ ap (λ (y : _). y.from) is))));
           })

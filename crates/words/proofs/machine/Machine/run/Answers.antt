@@ -1,5 +1,5 @@
-use Rattle.std.proofs.Common.{◌≡◌, [], length, get_or, take, sym, ap, ◌∙◌, subst, arith}
-use Rattle.std.proofs.lemmas.List.{take_more, take_all}
+use Rattle.std.proofs.Common.{length, get_or, take, sym, subst}
+use Rattle.std.proofs.lemmas.List.{take_more}
 use Rattle.automaton.specs.Automaton.{Automaton, Word}
 use Rattle.words.specs.States.{LeadWithin}
 use Rattle.words.specs.Machines.{automaton}

@@ -1,9 +1,7 @@
-use Rattle.std.proofs.Common.{◌≡◌, ◌+◌, ◌-◌, ◌<◌, length, sym, refl, subst, arith}
+use Rattle.std.proofs.Common.{◌+◌, ◌<◌, length, sym, refl, subst, arith}
 use Rattle.automaton.specs.Automaton.{Walk, stay}
 use Rattle.automaton.proofs.Walks.{walk_push}
 use Rattle.build.proofs.Parts.{part_more}
-use Rattle.words.specs.Layers.{layer}
-use Rattle.words.specs.Machines.{automaton}
 use Rattle.words.proofs.Spelling.{wrote_none, wrote_more, few_letters}
 use Rattle.words.proofs.machine.Machine.spell.Goals as goal
 
