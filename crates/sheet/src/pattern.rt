@@ -1,4 +1,4 @@
-// The rows of a table: whether more fit, and writing them.
+// The rows of a pattern: whether they fit in the tables, and writing them.
 ghost use Rattle.std.specs.Prelude.{ℕ, ◌+◌, ◌<◌, ◌≤◌, length, slice_index_or, Decides};
 ghost use Rattle.build.specs.Tables.{part, InUse, Kept};
 
