@@ -29,7 +29,7 @@ use Rattle.build.specs.Tails.{written, room, Appended}
 use Rattle.build.proofs.Joining.{map_map}
 use Rattle.build.proofs.Linking.{links, links_listed, links_rows, links_counted, place, row}
 use Rattle.build.proofs.Listing.{lists_numbers}
-use Rattle.build.proofs.Producing.{built_counts}
+use Rattle.build.proofs.Producing.{built_counts, written_front}
 
 numbers_more : {X : Type 0} {P : X → Type 0} {n : ℕ} {f : ℕ → X} → Numbers P n f → (room : ℕ) → room < n → MoreThan P room f
 numbers_more numbers room low = record { each = λ i within. numbers.each i (omega arith); once = λ i j within within' same. numbers.once i j (omega arith) (omega arith) same }
@@ -165,12 +165,6 @@ module _ {L : Type 0} (a : Labels L) (m k : Automaton L) where
 
   pub arcs_over : (room : ℕ) → room < length (arc_rows m k) → MoreThan (concats a m k).Arrow room (λ i. get_or (links a m k) i (inl 0))
   arcs_over room low = numbers_more (lists_numbers (links a m k) (inl 0) (links_listed a m k)) room (omega (arith, ap (λ l. length l) (links_rows a m k), length-map (links a m k) (row a m k)))
-
--- the rows that a tail was written into begin with the written ones
-written_front : {T : Type 0} (t : Tail T) (lent read : List T) → t.count ≤ length t.rows.now → lent ≡ t.rows.now → read ≡ written t → (length read ≤ length lent) × (take (length read) lent ≡ written t)
-written_front t lent read within is reads =
-    let long : length read ≡ t.count = ap length reads ∙ length-take t.count t.rows.now ∙ omega (arith, within) in
-    (omega (arith, ap length is), ap (λ n. take n lent) long ∙ ap (take t.count) is)
 
 -- the free rows that the writing leaves
 module _ {L : Type 0} (a : Labels L) (m k : Automaton L) (s t : Tail State) (states : List State) (r : Result (Unit {0}) Full) (empty : written s ≡ []) (wrote : Appended s t (state_rows m k) r) where

@@ -5,6 +5,7 @@ ghost use Rattle.build.specs.Tables.{state_room, arc_room, InUse};
 use crate::{ARC_ROWS, Rows, STATE_ROWS};
 use automaton::{Arc, State};
 
+// Not one function over the rows and a limit: each caller would have to name the limit.
 pub fn state_room(states: &[State]) -> usize
     ensures counts { result ≡ state_room states.now }
 {
