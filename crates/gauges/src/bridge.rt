@@ -1,12 +1,13 @@
 // The bridge station's sheet, entered call by call or solved: its reply is an optional acknowledgement and then the
 // temperature, which is a number and its unit.
 use crate::lines::Quoted;
-use crate::rows::{spare_arc, table};
+use crate::rows::table;
 use crate::solving;
 use alphabet::text::{Text, TextLabel};
 use automaton::{Arc, State};
 use build::Rows;
 use giver::fixed::FixedText;
+use giver::no_arc;
 use sheet::{Counts, Join, Refusal, Sheet};
 use std::alloc::{AllocError, Global};
 use std::fmt;
@@ -83,7 +84,7 @@ impl Bridge {
         Bridge {
             sheet: Sheet::new(),
             states: [State::default(); ROWS],
-            arcs: [spare_arc::<Text>(); ROWS],
+            arcs: [no_arc::<Text>(); ROWS],
         }
     }
 
@@ -157,7 +158,7 @@ pub fn solved_record(heap: Global) -> Result<String, AllocError> {
     let mut bridge = Bridge::new();
     bridge.enter(&mut String::new(heap))?;
     let mut states = table(heap, &bridge.states, State::default())?;
-    let mut arcs = table(heap, &bridge.arcs, spare_arc::<Text>())?;
+    let mut arcs = table(heap, &bridge.arcs, no_arc::<Text>())?;
     solving::record::<Text>(
         heap,
         "bridge",

@@ -61,6 +61,7 @@ struct Tally {
 }
 
 impl Tally {
+    // Field by field: the replies are read once and not kept, so there is no list to count over.
     fn note(&mut self, judged: Judged) {
         self.read = self.read.saturating_add(1);
         self.wait = self.wait.saturating_add(usize::from(judged.wait));

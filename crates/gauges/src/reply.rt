@@ -1,14 +1,14 @@
 // The weir's reply as a join: an optional acknowledgement and then the level, met with the wait.
-use crate::rows::{ROWS, spare_arc};
+use crate::rows::ROWS;
 use crate::weir::{LEVEL, sign_arcs, sign_states, takes, wait_arcs, wait_states};
 use alphabet::modem::{Modem, ModemLabel};
 use automaton::{Arc, State};
 use build::concat::concat;
 use build::product::product;
 use build::{Operands, Place, Rows, Stop};
-use giver::Giver;
 use giver::fixed::FixedText;
 use giver::table::Table;
+use giver::{Giver, no_arc};
 use std::array;
 
 // The rows of the acknowledgement, then those of the level, then those of the wait.
@@ -56,7 +56,7 @@ fn states() -> [State; ROWS] {
 }
 
 fn arcs() -> [Arc<ModemLabel>; ROWS] {
-    let mut arcs = [spare_arc::<Modem>(); ROWS];
+    let mut arcs = [no_arc::<Modem>(); ROWS];
     arcs[0..1].copy_from_slice(&sign_arcs());
     arcs[1..5].copy_from_slice(&level_arcs());
     arcs[5..7].copy_from_slice(&wait_arcs());

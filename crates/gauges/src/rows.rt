@@ -1,8 +1,7 @@
 // The rows of which the stations' automata are made, and tables of them.
 ghost use Rattle.std.specs.Prelude.{◌≡◌, ◌-◌, ◌++◌, length, take, replicate, IfOk};
 
-use alphabet::Alphabet;
-use automaton::{Arc, Marks, State};
+use automaton::{Marks, State};
 use std::alloc::{AllocError, Global};
 
 // So many rows has a table in which builds are made.
@@ -12,17 +11,6 @@ pub fn state(initial: bool, accepting: bool) -> State
     ensures marked { result ≡ record { marks = record { initial = initial; accepting = accepting }; left = 0; right = 0 } }
 {
     State::from(Marks { initial, accepting })
-}
-
-// What fills a table of arcs behind the rows in use.
-pub fn spare_arc<A: Alphabet>() -> Arc<A::Label>
-    ensures fills { result ≡ record { from = 0; label = A.Alphabet.labels.full; to = 0 } }
-{
-    Arc {
-        from: 0,
-        label: A::full(),
-        to: 0,
-    }
 }
 
 // A table of 64 rows that begins with these.

@@ -5,12 +5,13 @@ ghost use Rattle.solve.specs.Report.{word_at};
 ghost use Rattle.gauges.specs.Shown.{verdict_line, refused_line};
 
 use crate::lines::Quoted;
-use crate::rows::{spare_arc, table};
+use crate::rows::table;
 use crate::weir;
 use alphabet::Alphabet;
 use alphabet::modem::{Modem, ModemLabel};
 use automaton::{Arc, State};
 use giver::fixed::FixedText;
+use giver::no_arc;
 use giver::table::Table;
 use sheet::{Join, MAX_PARTS, Refusal, Sheet};
 use solve::{Row, Span, solve};
@@ -121,7 +122,7 @@ fn enter_weir(
 // The record of solving the weir station's sheet.
 pub fn weir_record(heap: Global) -> Result<String, AllocError> {
     let mut states = table(heap, &[], State::default())?;
-    let mut arcs = table(heap, &[], spare_arc::<Modem>())?;
+    let mut arcs = table(heap, &[], no_arc::<Modem>())?;
     let mut sheet = Sheet::new();
     match enter_weir(&mut sheet, &mut states, &mut arcs) {
         Ok(()) => record::<Modem>(

@@ -43,6 +43,7 @@ pub struct Join {
     pub right: usize,
 }
 
+// Those of a giver come in by `From`; this enum has six more, and one number for each.
 #[derive(Clone, Copy, Debug, PartialEq, Eq)]
 pub enum Refusal {
     // a part number is not below the count

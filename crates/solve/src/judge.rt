@@ -35,6 +35,7 @@ fn place_words<A: Alphabet>(
 }
 
 // Unknown if a part is used twice; else possible, with words, unless the words table is too short.
+// The tables are slices here, and no `Tables`: the check covers no call on one that is lent again after a `match`.
 pub fn judge<A: Alphabet>(
     states: &mut [State],
     arcs: &[Arc<A::Label>],

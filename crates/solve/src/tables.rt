@@ -28,6 +28,7 @@ pub enum Halt {
 
 impl From<Table> for Halt {
     ghost use Rattle.solve.specs.declared.tables.Halt.TheVariants.{Full};
+
     ghost from_gives = { λ table halt. halt ≡ Full table };
 
     fn from(table: Table) -> Halt {
@@ -58,7 +59,7 @@ impl<'s, 'a, A: Alphabet> Tables<'s, 'a, A> {
     }
 }
 
-// The table that a build passes.
+// The table that a build passes. Not `From`: a build that cannot be made passes no table of rows, and none here is such.
 fn table_of(stop: Stop) -> Table
     ensures names { result ≡ passed stop }
 {

@@ -1,5 +1,6 @@
 // Whether an automaton accepts a word, by running it along the word. The set of states that it can be in is kept in
 // the two numbers of its own rows: left is 1 for the states of the set, and right for those of the next one.
+// Not `giver::accepts` over these rows: its set is an array of 256 marks, and an automaton here can have more states.
 ghost use Rattle.std.specs.Prelude.{◌≡◌, map, length, Decides};
 ghost use Rattle.automaton.specs.Automaton.{Accepts, of_rows};
 ghost use Rattle.build.specs.Tables.{InUse, Stands, at};

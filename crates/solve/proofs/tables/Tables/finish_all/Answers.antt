@@ -1,4 +1,4 @@
-use Rattle.std.proofs.Common.{◌≡◌, ℕ, ◌+◌, ◌<◌, List, ◌++◌, map, length, Ok, Err, Result, sym, ap, ◌∙◌, subst, lit<, arith}
+use Rattle.std.proofs.Common.{◌≡◌, ℕ, ◌<◌, List, ◌++◌, map, length, sym, ap, ◌∙◌, subst, lit<, arith}
 use Rattle.std.specs.List.{ContainsAt as Has}
 use Rattle.sheet.specs.declared.Held.{Held}
 use Rattle.sheet.specs.declared.Join.{Join}
@@ -6,9 +6,9 @@ use Rattle.sheet.specs.Calls.{view}
 use Rattle.sheet.proofs.Invariants.{few_parts, among, known, acyclic}
 use Rattle.verdict.specs.Course.{pattern_operands, join_operands}
 use Rattle.verdict.specs.Problem.{read}
-use Rattle.solve.specs.Builds.{Work, Break, AllStand, PartBuilt, with_rows}
+use Rattle.solve.specs.Builds.{Work, AllStand, PartBuilt, with_rows}
 use Rattle.solve.specs.Parts.{Among, Open, dones}
-use Rattle.solve.proofs.Coursing.{Underway, underway_none, underway_more, patterns_stand, stopped, completed, fewer, whole_stands}
+use Rattle.solve.proofs.Coursing.{Underway, underway_more, patterns_stand, stopped, completed, fewer, whole_stands}
 use Rattle.solve.proofs.tables.Tables.finish_all.Given as given
 use Rattle.solve.proofs.tables.Tables.finish_all.Goals as goal
 use Rattle.solve.proofs.tables.Tables.finish_all.Goals.{In-Some, After-build_part}
@@ -91,7 +91,7 @@ loop-part-preserved g c =
     let counted = ap (λ x. x.parts) c.counts-parts.ensures.counted in
     let part' = subst (λ r. PartBuilt a (pattern_operands (map (read now.states.now now.arcs.now) v.patterns) p ++ join_operands (dones now.states.now now.arcs.now c.loop-part.finished.items) v.joins p) now.used now.states.now now.arcs.now after.states.now after.arcs.now (with_rows after.used r)) c.in-Ok.is (built g (goal.at.loop-part-preserved g c).After-build_part) in (
       subst (λ l. Underway a v first.states.now first.arcs.now after.states.now after.arcs.now l after.used) (sym c.push.ensures.items)
-      (underway_more a v first.states.now first.arcs.now (standing g at) now.states.now now.arcs.now c.loop-part.finished.items now.used inv.0 p found.0 found.1 found.2 after.states.now after.arcs.now w part'),
+          (underway_more a v first.states.now first.arcs.now (standing g at) now.states.now now.arcs.now c.loop-part.finished.items now.used inv.0 p found.0 found.1 found.2 after.states.now after.arcs.now w part'),
       omega (arith, (below g at).0, counted, c.push.ensures.len),
       c.build_part.ensures.same_states ∙ inv.2,
       c.build_part.ensures.same_arcs ∙ inv.3,
@@ -119,5 +119,5 @@ returns-clause-ends g c =
     let hs = c.loop-part.finished.items in
     let None' : ℕ → List Join → List Held → Type 0 = λ n js hs. (p : ℕ) → p < n → Open js hs p → ⊥ in
     let none_open = subst (λ n. None' n v.joins hs) (ap (λ x. x.parts) c.counts-parts.ensures.counted)
-        (subst (λ js. None' c.counts-parts.result.parts js hs) c.joins-joins.ensures.held_joins (subst (None' c.counts-parts.result.parts c.joins-joins.result.now) c.deref.ensures.0 c.in_default.ensures.finds)) in
+    (subst (λ js. None' c.counts-parts.result.parts js hs) c.joins-joins.ensures.held_joins (subst (None' c.counts-parts.result.parts c.joins-joins.result.now) c.deref.ensures.0 c.in_default.ensures.finds)) in
     completed g.A.Alphabet.labels v first.states.now first.arcs.now (whole_stands v first.states.now first.arcs.now (among sheet) c.requires.whole) now.states.now now.arcs.now hs now.used c.loop-part.invariant.0 (acyclic sheet) (known sheet) none_open

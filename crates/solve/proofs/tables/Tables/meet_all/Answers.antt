@@ -1,7 +1,6 @@
 use Rattle.std.proofs.Common.{List, subst}
 use Rattle.verdict.specs.Course.{Done, join_operands}
 use Rattle.solve.specs.Builds.{Work, Went, with_rows}
-use Rattle.solve.specs.Parts.{dones}
 use Rattle.solve.proofs.Going.{went_then, went_stands}
 use Rattle.solve.proofs.Operands.{dones_same}
 use Rattle.solve.proofs.tables.Tables.meet_all.Goals as goal
