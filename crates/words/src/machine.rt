@@ -23,6 +23,7 @@ impl<L: Copy> Machine<'_, L> {
         ensures same { SameMachine self.old self.new }
     {
         let states = &mut *self.states;
+        // by index: of rows that are written through `iter_mut` a proof knows nothing
         for q in 0..states.len() {
             let state = states[q];
             states[q] = State {

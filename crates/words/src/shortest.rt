@@ -73,6 +73,7 @@ impl<L: Copy> Machine<'_, L> {
         ensures same { SameMachine self.old self.new }
     {
         self.begin_layers();
+        // counted by hand: how many rounds there will be is not known before
         let mut top = 1;
         while self.round::<A>(top) {
             top += 1;
@@ -130,6 +131,7 @@ impl<L: Copy> Machine<'_, L> {
     {
         let letters = self.states[first].left - 1;
         let mut q = first;
+        // by index: of letters that are written through `iter_mut` a proof knows nothing
         for i in 0..letters {
             let Some(arc) = self.down::<A>(q, letters - i) else {
                 unreachable!()
