@@ -1,12 +1,10 @@
 -- What marks mean: the laws of the modem alphabet.
-use Rattle.std.specs.Prelude.{◌≡◌, ℕ, ◌<◌, Bool, true, false, cond, ◌&&◌, length, Some, None, MatchOption, nat_lt, slice_index_or, get_or, refl}
+use Rattle.std.specs.Prelude.{◌≡◌, ℕ, zero, suc, ◌+◌, ◌<◌, ◌≤◌, Bool, true, false, cond, ◌&&◌, List, length, Some, None, Option, MatchOption, nat_lt, slice_index_or, refl}
 use Rattle.std.proofs.Common.{sym, ap, ◌∙◌, ⊎_elim, zero-add, arith, lit≤}
-use Rattle.std.proofs.lemmas.List.FromFn.{length-range_with_len, get_or-range_with_len, get_or-map-range_with_len}
-use Rattle.std.proofs.lemmas.Bool.{and_parts, and_left, ltb-true, ltb-false, lt-ltb, le-ltb, both_ways, cases_lt, cases_Bool}
-use Rattle.std.specs.List.{range_with_len, position, position_or_len}
-use Rattle.std.proofs.lemmas.List.Sums.{fails_before_first, passes_at_first}
+use Rattle.std.proofs.lemmas.List.FromFn.{get_or-map-range_with_len, fill_by_all}
+use Rattle.std.proofs.lemmas.Bool.{and_parts, and_left, ltb-true, lt-ltb, le-ltb, both_ways, cases_lt, cases_Bool, cases_eq}
 use Rattle.alphabet.specs.Labels.{Set, Empty, Least, Lawful, Ranged, from_to}
-use Rattle.alphabet.specs.Modem.{marking, marked, modem, marks_from_to}
+use Rattle.alphabet.specs.Modem.{marking, marked, search_from, modem, marks_from_to}
 use Rattle.alphabet.specs.declared.modem.ModemLabel.{ModemLabel}
 
 pub marked_below : (l : ModemLabel) (c : ℕ) → marked l c ≡ true → c < 128
@@ -26,20 +24,28 @@ marked_marking_below s below c = marked_marking s c ∙ go (s c) refl
     go true e = ap (λ t. t && s c) (lt-ltb c 128 (below c e))
     go false e = ap (λ t. nat_lt c 128 && t) e ∙ ⊎_elim (λ h. ap (λ t. t && false) h) (λ h. ap (λ t. t && false) h) (cases_Bool (nat_lt c 128)) ∙ sym e
 
--- of a set that lies below n, the first of the numbers below n in it is its smallest letter
-first_below : (s : Set) (n : ℕ) → ((c : ℕ) → s c ≡ true → c < n) → MatchOption (position s (range_with_len 0 n)) (Empty s) (Least s)
-first_below s n below = go (position_or_len s (range_with_len 0 n)) (λ c low before. ap s (sym (at c low)) ∙ fails_before_first s (range_with_len 0 n) c 0 before)
-    (λ low. ap s (sym (at _ (omega (arith, low, length-range_with_len 0 n)))) ∙ passes_at_first s (range_with_len 0 n) 0 low) _ refl
-  where
-    at : (c : ℕ) → c < n → get_or (range_with_len 0 n) c 0 ≡ c
-    at c low = get_or-range_with_len 0 n c 0 low ∙ zero-add c
+-- m is the smallest letter of the set from c on
+Found : Set → ℕ → ℕ → Type 0
+Found s c m = (s m ≡ true) × ((k : ℕ) → c ≤ k → s k ≡ true → m ≤ k)
 
-    go : (i : ℕ) → ((c : ℕ) → c < n → c < i → s c ≡ false) → (i < length (range_with_len 0 n) → s i ≡ true) → (b : Bool) → nat_lt i (length (range_with_len 0 n)) ≡ b → MatchOption (cond b (Some i) None) (Empty s) (Least s)
-    go i passed there true e = record {
-      inside = there (ltb-true i _ e);
-      smallest = λ c yes'. ⊎_elim (λ before. absurd (both_ways _ (passed c (below c yes') before) yes')) (λ h. h) (cases_lt c i);
-    }
-    go i passed there false e = λ c. ⊎_elim (λ yes'. passed c (below c yes') (omega (arith, below c yes', ltb-false i _ e, length-range_with_len 0 n))) (λ no. no) (cases_Bool (s c))
+finds : (s : Set) (c n : ℕ) → MatchOption (search_from s c n) ((k : ℕ) → c ≤ k → k < c + n → s k ≡ false) (Found s c)
+unfolding Found search_from
+finds s c zero = λ k low high. absurd (omega arith)
+finds s c (suc n) = go (search_from s (suc c) n) (finds s (suc c) n) (s c) refl
+  where
+    go : (o : Option ℕ) → MatchOption o ((k : ℕ) → suc c ≤ k → k < suc c + n → s k ≡ false) (Found s (suc c)) → (b : Bool) → s c ≡ b →
+        MatchOption (cond b (Some c) o) ((k : ℕ) → c ≤ k → k < c + suc n → s k ≡ false) (Found s c)
+    go o h true e = (e, λ k low yes'. low)
+    go None h false e = λ k low high. ⊎_elim (λ same. ap s (sym same) ∙ e) (λ other. h k (omega arith) (omega arith)) (cases_eq c k)
+    go (Some m) h false e = (h.0, λ k low yes'. ⊎_elim (λ same. absurd (both_ways (s k) (ap s (sym same) ∙ e) yes')) (λ other. h.1 k (omega arith) yes') (cases_eq c k))
+
+pub first_marked : (l : ModemLabel) → MatchOption (search_from (marked l) 0 128) (Empty (marked l)) (Least (marked l))
+unfolding Found
+first_marked l = go (search_from (marked l) 0 128) (finds (marked l) 0 128)
+  where
+    go : (o : Option ℕ) → MatchOption o ((k : ℕ) → 0 ≤ k → k < 0 + 128 → marked l k ≡ false) (Found (marked l) 0) → MatchOption o (Empty (marked l)) (Least (marked l))
+    go None h = λ c. ⊎_elim (λ low. h c (omega arith) low) (λ high. and_left _ _ (le-ltb c 128 high)) (cases_lt c 128)
+    go (Some m) h = record { inside = h.0; smallest = λ c yes'. h.1 c (omega arith) yes' }
 
 from_to_below : (n lo hi c : ℕ) → from_to n lo hi c ≡ true → c < n
 from_to_below n lo hi c h = ltb-true c n (and_parts (nat_lt c n) _ h).0
@@ -51,8 +57,12 @@ lawful = record {
   within = marked_below;
   full_all = λ c h. marked_marking (λ _. true) c ∙ ap (λ b. b && true) (lt-ltb c 128 h);
   meet_both = λ l k. marked_marking_below (λ c. marked l c && marked k c) (λ c h. marked_below l c (and_parts (marked l c) (marked k c) h).0);
-  first_least = λ l. first_below (marked l) 128 (marked_below l);
+  first_least = first_marked;
 }
 
 pub ranged : Ranged modem marks_from_to
 ranged = record { range_means = λ lo hi. marked_marking_below (from_to 128 lo hi) (from_to_below 128 lo hi) }
+
+-- a loop over the letters that marks those of a set makes the label of the set
+pub marking_all : (s : Set) (marks : List Bool) → length marks ≡ 128 → ((c : ℕ) → c < 128 → slice_index_or marks c false ≡ s c) → record { marks = marks } ≡ marking s
+marking_all s marks long at = ap (λ (m : List Bool). record { marks = m }) (fill_by_all s marks 128 false long at)
