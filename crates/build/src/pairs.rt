@@ -64,8 +64,8 @@ impl<A: Alphabet> Inputs<'_, A> {
         ensures begins { Extended A.labels self.now.left self.now.right pairs.old pairs.new (BegunAt self.now.right p) result }
         ensures same_rows { SameRows pairs.old pairs.new }
     {
-        for q in 0..self.right.state_count() {
-            if self.right.marks(q).initial {
+        for (q, right) in self.right.states().iter().enumerate() {
+            if right.marks.initial {
                 self.add(pairs, p, q)?;
             }
         }
@@ -78,8 +78,8 @@ impl<A: Alphabet> Inputs<'_, A> {
         ensures begins { Extended A.labels self.now.left self.now.right pairs.old pairs.new (Begun self.now.left self.now.right) result }
         ensures same_rows { SameRows pairs.old pairs.new }
     {
-        for p in 0..self.left.state_count() {
-            if self.left.marks(p).initial {
+        for (p, left) in self.left.states().iter().enumerate() {
+            if left.marks.initial {
                 self.begin_at(pairs, p)?;
             }
         }
