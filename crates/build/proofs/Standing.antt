@@ -15,11 +15,10 @@ use Rattle.build.specs.declared.Stop.{Stop}
 use Rattle.build.specs.declared.Stop.TheVariants.{StatesFull, ArcsFull, Outside}
 use Rattle.build.specs.Emitted.{Fits, FitsBehind}
 use Rattle.build.specs.Inputs.{StandsIn}
-use Rattle.build.specs.Outcome.{Outcome, Answer, Sizes}
+use Rattle.build.specs.Outcome.{Built, Outcome, Answer, Meant}
 use Rattle.build.specs.Pairs.{left_of, right_of, Ready}
 use Rattle.build.specs.Tables.{state_room, arc_room, part, at, InUse, Lies, Stands}
 use Rattle.build.proofs.Inputs.{at_held, stands_held}
-use Rattle.build.proofs.Producing.{built_sizes}
 
 -- a search that found nothing, and one that found something
 pub none_found : {X : Type 0} (P : Type 0) (Q : X → Type 0) (o : Option X) → MatchOption o P Q → false ≡ is_some o → P
@@ -145,10 +144,8 @@ module _ {S E L : Type 0} (a : Labels L) (N : Automaton L → Automaton L → Nf
       )
   answered r x is (inr h) = inr (λ ready. h.0 (record { in_use = in_use_back; left = stands_back job.left ready.left; right = stands_back job.right ready.right }), is ∙ ap (placed used) h.1)
 
--- what was built is the outcome
-pub outcome_of : {S E L : Type 0} (R : Type 0) (a : Labels L) (nfa : Nfa S E L) (used : Rows) (t : List State) (v : List (Arc L)) (p : Place) → Answer R a nfa used t v (Ok p) → Outcome a nfa used t v (Ok p)
-outcome_of R a nfa used t v p (inl h) = h.1
-outcome_of R a nfa used t v p (inr h) = let z : ◌≡◌ {A = ℕ} 0 1 = cc in absurd (omega arith)
-
-pub sizes_of : {S E L : Type 0} (R : Type 0) (a : Labels L) (nfa : Nfa S E L) (used : Rows) (t : List State) (v : List (Arc L)) (p : Place) → Answer R a nfa used t v (Ok p) → Sizes nfa p.count
-sizes_of R a nfa used t v p h = built_sizes a nfa used t v (Ok p) (outcome_of R a nfa used t v p h)
+-- what holds of all that is built holds of what was built
+pub meant : {S E L : Type 0} (R : Type 0) (a : Labels L) (nfa : Nfa S E L) (used : Rows) (t : List State) (v : List (Arc L)) (r : Result Place Stop) (P : Place → Type 0) → Answer R a nfa used t v r → ((p : Place) → Built a nfa used t v p → P p) → Meant r P
+meant R a nfa used t v (Ok p) P (inl h) so = so p h.1
+meant R a nfa used t v (Ok p) P (inr h) so = let z : ◌≡◌ {A = ℕ} 0 1 = cc in absurd (omega arith)
+meant R a nfa used t v (Err e) P h so = tt
