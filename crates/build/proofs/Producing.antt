@@ -26,7 +26,7 @@ use Rattle.build.specs.Pairs.{products, row_of, Sofar, Extended}
 use Rattle.build.specs.Tables.{part, at}
 use Rattle.build.specs.Tails.{written, room}
 use Rattle.build.proofs.Exploring.{pair_at}
-use Rattle.build.proofs.Parts.{length_part, take_front}
+use Rattle.build.proofs.Parts.{length_part}
 use Rattle.build.proofs.Places.{distinct_places}
 
 -- rows that stand for all arrows of an abstract automaton, over its numbered states, realize it
