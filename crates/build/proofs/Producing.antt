@@ -1,5 +1,5 @@
 -- The rows of a product realize it.
-use Rattle.std.proofs.Common.{◌≡◌, ℕ, ◌<◌, ◌≤◌, Bool, true, ◌&&◌, ◌↔◌, List, map, length, get_or, take, ◌++◌, Ok, Err, Decides, Result, is_ok, sym, ap, ◌∙◌, subst, inl, arith}
+use Rattle.std.proofs.Common.{◌≡◌, ℕ, ◌<◌, ◌≤◌, Bool, true, ◌&&◌, ◌↔◌, List, map, length, get_or, take, Ok, Err, Decides, Result, is_ok, sym, ap, ◌∙◌, subst, inl, arith}
 use Rattle.std.specs.List.{ContainsAt as Has}
 use Rattle.std.proofs.ByRecursion.{All-get_or}
 use Rattle.std.proofs.lemmas.List.{length-map, length-take, get_or-map}
@@ -10,21 +10,20 @@ use Rattle.automaton.specs.declared.Arc.{Arc}
 use Rattle.automaton.specs.declared.Marks.{Marks}
 use Rattle.automaton.specs.declared.State.{State}
 use Rattle.automaton.specs.Automaton.{Automaton, Word, Accepts, initial, accepting, unmarked, of_rows}
-use Rattle.automaton.specs.Nfa.{Nfa, Realizes, rows, product}
+use Rattle.automaton.specs.Nfa.{Nfa, Realizes}
 use Rattle.automaton.specs.Numbers.{Numbers}
 use Rattle.automaton.proofs.Counting.{numbers_list}
 use Rattle.automaton.proofs.Products.{product_exact}
 use Rattle.automaton.proofs.Realizing.{initial_below, realizes_accepts, rows_exact}
 use Rattle.build.specs.declared.Place.{Place}
 use Rattle.build.specs.declared.Rows.{Rows}
-use Rattle.build.specs.declared.Stop.{Stop}
 use Rattle.build.specs.declared.tail.Full.{Full}
 use Rattle.build.specs.declared.tail.Tail.{Tail}
 use Rattle.build.specs.Emitted.{Emitted, name_of, Paired, Before, Written, PairsWrote, Fits}
-use Rattle.build.specs.Outcome.{Built, Outcome, Meant, Sizes}
+use Rattle.build.specs.Outcome.{Built, Sizes}
 use Rattle.build.specs.Pairs.{products, row_of, Sofar, Extended}
 use Rattle.build.specs.Tables.{part, at}
-use Rattle.build.specs.Tails.{written, room}
+use Rattle.build.specs.Tails.{written}
 use Rattle.build.proofs.Exploring.{pair_at}
 use Rattle.build.proofs.Parts.{length_part}
 use Rattle.build.proofs.Places.{distinct_places}

@@ -137,7 +137,9 @@ impl<A: Alphabet> Operation<A> for Concatenation {
         arcs: &mut [Arc<A::Label>],
     ) -> Result<Rows, Stop> {
         let mut states = Tail::new(states);
-        inputs.put_states(&mut states).map_err(|_| Stop::StatesFull)?;
+        inputs
+            .put_states(&mut states)
+            .map_err(|_| Stop::StatesFull)?;
         let mut arcs = Tail::new(arcs);
         inputs.put_arcs(&mut arcs).map_err(|_| Stop::ArcsFull)?;
         Ok(Rows {

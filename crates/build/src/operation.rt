@@ -33,6 +33,7 @@ pub trait Operation<A: Alphabet> {
 }
 
 // Builds behind the rows in use of tables all of whose rows count.
+// Apart from `build`: where one body cuts a table twice, the check does not find what of it is kept.
 fn write_behind<A: Alphabet, O: Operation<A>>(
     states: &mut [State],
     arcs: &mut [Arc<A::Label>],
