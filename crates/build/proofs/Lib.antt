@@ -9,7 +9,6 @@ pub mod Inputs
 pub mod Producing
 pub mod Parts
 pub mod Places
-pub mod Placing
 pub mod Linking
 pub mod Listing
 pub mod Standing

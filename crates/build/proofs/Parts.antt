@@ -1,6 +1,5 @@
 -- Rows of a part of a table.
-use Rattle.std.proofs.Common.{◌≡◌, ℕ, ◌+◌, ◌<◌, ◌≤◌, List, [], ◌∷◌, ◌++◌, length, get_or, take, drop, set, sym, ap, ◌∙◌, arith}
-use Rattle.std.proofs.Math.Seq.{take-append_seam}
+use Rattle.std.proofs.Common.{◌≡◌, ℕ, ◌+◌, ◌<◌, ◌≤◌, List, [], ◌∷◌, ◌++◌, length, get_or, take, drop, set, ap, ◌∙◌, arith}
 use Rattle.std.proofs.lemmas.List.{length-take, length-drop, get_or-take, get_or-drop, get_or_default, drop-set-add, take_more_set}
 use Rattle.build.specs.Tables.{part}
 
@@ -14,7 +13,3 @@ module _ {X : Type 0} (xs : List X) (first n : ℕ) (fits : first + n ≤ length
 -- one row more
 pub part_more : {X : Type 0} (xs : List X) (first n : ℕ) (x : X) → first + n < length xs → part (set xs (first + n) x) first (n + 1) ≡ part xs first n ++ x ∷ []
 part_more xs first n x low = ap (take (n + 1)) (drop-set-add first xs n x) ∙ take_more_set (drop first xs) n x (rw length-drop (omega arith))
-
--- the first n rows are the front of n
-pub take_front : {X : Type 0} (n : ℕ) (front back : List X) → length front ≡ n → take n (front ++ back) ≡ front
-take_front n front back long = ap (λ k. take k (front ++ back)) (sym long) ∙ take-append_seam front back

@@ -1,5 +1,5 @@
 -- The rows of a product realize it.
-use Rattle.std.proofs.Common.{◌≡◌, ℕ, ◌<◌, ◌≤◌, Bool, true, ◌&&◌, ◌↔◌, List, map, length, get_or, take, ◌++◌, Ok, Err, Decides, Result, is_ok, sym, ap, ◌∙◌, subst, inl, arith}
+use Rattle.std.proofs.Common.{◌≡◌, ℕ, ◌<◌, ◌≤◌, Bool, true, ◌&&◌, ◌↔◌, List, map, length, get_or, take, Ok, Err, Decides, Result, is_ok, sym, ap, ◌∙◌, subst, inl, arith}
 use Rattle.std.specs.List.{ContainsAt as Has}
 use Rattle.std.proofs.ByRecursion.{All-get_or}
 use Rattle.std.proofs.lemmas.List.{length-map, length-take, get_or-map}
@@ -10,23 +10,22 @@ use Rattle.automaton.specs.declared.Arc.{Arc}
 use Rattle.automaton.specs.declared.Marks.{Marks}
 use Rattle.automaton.specs.declared.State.{State}
 use Rattle.automaton.specs.Automaton.{Automaton, Word, Accepts, initial, accepting, unmarked, of_rows}
-use Rattle.automaton.specs.Nfa.{Nfa, Realizes, rows, product}
+use Rattle.automaton.specs.Nfa.{Nfa, Realizes}
 use Rattle.automaton.specs.Numbers.{Numbers}
 use Rattle.automaton.proofs.Counting.{numbers_list}
 use Rattle.automaton.proofs.Products.{product_exact}
 use Rattle.automaton.proofs.Realizing.{initial_below, realizes_accepts, rows_exact}
 use Rattle.build.specs.declared.Place.{Place}
 use Rattle.build.specs.declared.Rows.{Rows}
-use Rattle.build.specs.declared.Stop.{Stop}
 use Rattle.build.specs.declared.tail.Full.{Full}
 use Rattle.build.specs.declared.tail.Tail.{Tail}
 use Rattle.build.specs.Emitted.{Emitted, name_of, Paired, Before, Written, PairsWrote, Fits}
-use Rattle.build.specs.Outcome.{Built, Outcome, Meant, Sizes}
+use Rattle.build.specs.Outcome.{Built, Sizes}
 use Rattle.build.specs.Pairs.{products, row_of, Sofar, Extended}
 use Rattle.build.specs.Tables.{part, at}
-use Rattle.build.specs.Tails.{written, room}
+use Rattle.build.specs.Tails.{written}
 use Rattle.build.proofs.Exploring.{pair_at}
-use Rattle.build.proofs.Parts.{length_part, take_front}
+use Rattle.build.proofs.Parts.{length_part}
 use Rattle.build.proofs.Places.{distinct_places}
 
 -- rows that stand for all arrows of an abstract automaton, over its numbered states, realize it
@@ -83,24 +82,23 @@ written_front t lent read within is reads =
     let long : length read ≡ t.count = ap length reads ∙ length-take t.count t.rows.now ∙ omega (arith, within) in
     (omega (arith, ap length is), ap (λ n. take n lent) long ∙ ap (take t.count) is)
 
--- the first n of the free rows that an exploration and a writing of arcs leave
-pub product_fits : {L : Type 0} (a : Labels L) (m k : Automaton L) (s pairs : Tail State) (out : Tail (Arc L)) (states rest seen seen' : List State) (arcs rest' seen'' : List (Arc L)) (n n' : ℕ) (r r' : Result (Unit {0}) Full) →
-    states ≡ pairs.rows.now → arcs ≡ out.rows.now → room pairs ≡ n → room out ≡ n' → seen ≡ written pairs → seen' ≡ written pairs → seen'' ≡ written out → pairs.count ≤ length pairs.rows.now → out.count ≤ length out.rows.now →
+-- the free rows that an exploration and a writing of arcs leave
+pub product_fits : {L : Type 0} (a : Labels L) (m k : Automaton L) (s pairs : Tail State) (out : Tail (Arc L)) (states seen seen' : List State) (arcs seen'' : List (Arc L)) (r r' : Result (Unit {0}) Full) →
+    states ≡ pairs.rows.now → arcs ≡ out.rows.now → seen ≡ written pairs → seen' ≡ written pairs → seen'' ≡ written out → pairs.count ≤ length pairs.rows.now → out.count ≤ length out.rows.now →
     true ≡ is_ok r → Extended a m k s pairs (λ ps. Paired a m k (written pairs)) r → true ≡ is_ok r' → PairsWrote a m k seen out (length m.arcs) 0 r' →
-    Fits a (products a m k) (take n (states ++ rest)) (take n' (arcs ++ rest')) (Ok (record { states = length seen'; arcs = length seen'' }))
-product_fits a m k s pairs out states rest seen seen' arcs rest' seen'' n n' (Err e) r' states-is arcs-is long long' is is' is'' within within' ok explored ok' wrote = absurd (false≢true (sym ok))
-product_fits a m k s pairs out states rest seen seen' arcs rest' seen'' n n' (Ok u) (Err e) states-is arcs-is long long' is is' is'' within within' ok explored ok' wrote = absurd (false≢true (sym ok'))
-product_fits a m k s pairs out states rest seen seen' arcs rest' seen'' n n' (Ok u) (Ok u') states-is arcs-is long long' is is' is'' within within' ok explored ok' wrote =
-    let front = written_front pairs (take n (states ++ rest)) seen' within (take_front n states rest (ap length states-is ∙ long) ∙ states-is) is' in
-    let front' = written_front out (take n' (arcs ++ rest')) seen'' within' (take_front n' arcs rest' (ap length arcs-is ∙ long') ∙ arcs-is) is'' in
+    Fits a (products a m k) states arcs (Ok (record { states = length seen'; arcs = length seen'' }))
+product_fits a m k s pairs out states seen seen' arcs seen'' (Err e) r' states-is arcs-is is is' is'' within within' ok explored ok' wrote = absurd (false≢true (sym ok))
+product_fits a m k s pairs out states seen seen' arcs seen'' (Ok u) (Err e) states-is arcs-is is is' is'' within within' ok explored ok' wrote = absurd (false≢true (sym ok'))
+product_fits a m k s pairs out states seen seen' arcs seen'' (Ok u) (Ok u') states-is arcs-is is is' is'' within within' ok explored ok' wrote =
+    let front = written_front pairs states seen' within states-is is' in
+    let front' = written_front out arcs seen'' within' arcs-is is'' in
     let w = subst (λ l. Written (products a m k) (name_of l) (length l) (written out) (Before (length m.arcs) 0)) is wrote in
     (front.0, front'.0, subst (Realizes a (products a m k)) (λ i. of_rows (sym front.1 i) (sym front'.1 i)) (product_realized_by a m k (written pairs) (written out) explored.0 explored.2 w))
 
 -- what was built accepts the words that both accept
-pub built_product_exact : {L : Type 0} (a : Labels L) (laws : Lawful a) (m k : Automaton L) (used : Rows) (t : List State) (u : List (Arc L)) (r : Result Place Stop) → Outcome a (product a (rows a m) (rows a k)) used t u r →
-    Meant r (λ p. (w : Word) → Accepts a.admits (at t u p) w ↔ (Accepts a.admits m w × Accepts a.admits k w))
-built_product_exact a laws m k used t u (Err e) h = tt
-built_product_exact a laws m k used t u (Ok p) h = λ w.
+pub built_product_exact : {L : Type 0} (a : Labels L) (laws : Lawful a) (m k : Automaton L) (used : Rows) (t : List State) (u : List (Arc L)) (p : Place) → Built a (products a m k) used t u p → (w : Word) →
+    Accepts a.admits (at t u p) w ↔ (Accepts a.admits m w × Accepts a.admits k w)
+built_product_exact a laws m k used t u p h w =
     let real = realizes_accepts h.realizes w in
     let both' = product_exact laws w in (
       λ x. let y = both'.0 (real.0 x) in ((rows_exact a m w).0 y.0, (rows_exact a k w).0 y.1),
@@ -116,9 +114,8 @@ built_counts a nfa used t u p h =
       length_part u p.first.arcs p.count.arcs (omega (arith, h.arcs_fit)),
     )
 
-pub built_sizes : {S E L : Type 0} (a : Labels L) (nfa : Nfa S E L) (used : Rows) (t : List State) (u : List (Arc L)) (r : Result Place Stop) → Outcome a nfa used t u r → Meant r (λ p. Sizes nfa p.count)
-built_sizes a nfa used t u (Err e) h = tt
-built_sizes a nfa used t u (Ok p) h =
+pub built_sizes : {S E L : Type 0} (a : Labels L) (nfa : Nfa S E L) (used : Rows) (t : List State) (u : List (Arc L)) (p : Place) → Built a nfa used t u p → Sizes nfa p.count
+built_sizes a nfa used t u p h =
     let counts = built_counts a nfa used t u p h in
     let real = h.realizes in
     record {

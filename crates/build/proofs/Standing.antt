@@ -15,11 +15,10 @@ use Rattle.build.specs.declared.Stop.{Stop}
 use Rattle.build.specs.declared.Stop.TheVariants.{StatesFull, ArcsFull, Outside}
 use Rattle.build.specs.Emitted.{Fits, FitsBehind}
 use Rattle.build.specs.Inputs.{StandsIn}
-use Rattle.build.specs.Outcome.{Outcome, Answer, Sizes}
+use Rattle.build.specs.Outcome.{Built, Outcome, Answer, Meant}
 use Rattle.build.specs.Pairs.{left_of, right_of, Ready}
 use Rattle.build.specs.Tables.{state_room, arc_room, part, at, InUse, Lies, Stands}
-use Rattle.build.proofs.Inputs.{at_held, stands_held}
-use Rattle.build.proofs.Producing.{built_sizes}
+use Rattle.build.proofs.Inputs.{at_held, ready_held, operand_held}
 
 -- a search that found nothing, and one that found something
 pub none_found : {X : Type 0} (P : Type 0) (Q : X → Type 0) (o : Option X) → MatchOption o P Q → false ≡ is_some o → P
@@ -33,37 +32,23 @@ found P Q None e x h is = absurd (err_ok is)
     err_ok same = let z : ◌≡◌ {A = ℕ} 0 1 = cc in omega arith
 found P Q (Some y) e x h is = let same : y ≡ x = cc in subst Q same h
 
-module _ {S E L : Type 0} (a : Labels L) (N : Automaton L → Automaton L → Nfa S E L) (job : Operands) (s t held : List State) (u v held' : List (Arc L)) (in_use : InUse s u job.used) (is : held ≡ take job.used.states s) (is' : held' ≡ take job.used.arcs u) where
-  abbrev Both : Type 0
-  Both = StandsIn held held' job.left × StandsIn held held' job.right
+-- the rows behind those in use
+behind : {X : Type 0} (n : ℕ) (xs held free : List X) → held ≡ take n xs → n ≤ length xs → drop n (held ++ free) ≡ free
+behind n xs held free front low = drop_at held free n (ap length front ∙ length-take n xs ∙ omega (arith, low))
 
-  pub both_ready : Both → Ready job s u
-  both_ready both =
-      let left = subst₂ (λ h h'. StandsIn h h' job.left) is is' both.0 in
-      let right = subst₂ (λ h h'. StandsIn h h' job.right) is is' both.1 in
-      record { in_use = in_use; left = (stands_held job.used s u in_use job.left).0 left; right = (stands_held job.used s u in_use job.right).0 right }
-
-  pub ready_both : Ready job s u → Both
-  ready_both ready = (
-    subst₂ (λ h h'. StandsIn h h' job.left) (sym is) (sym is') ((stands_held job.used s u in_use job.left).1 ready.left),
-    subst₂ (λ h h'. StandsIn h h' job.right) (sym is) (sym is') ((stands_held job.used s u in_use job.right).1 ready.right),
-  )
-
-  -- operands that do not stand
-  pub refused : (r : Result Rows Stop) → (StandsIn held held' job.left → StandsIn held held' job.right → ⊥) → r ≡ Err Outside → FitsBehind (Ready job s u) a (N (left_of job s u) (right_of job s u)) job.used t v r
-  refused r none stop = inr (λ ready. let both = ready_both ready in none both.0 both.1, stop)
-
-  pub fits_behind : (m k : Automaton L) (free : List State) (free' : List (Arc L)) (r : Result Rows Stop) → Both → m ≡ at held held' job.left → k ≡ at held held' job.right → Fits a (N m k) free free' r → t ≡ held ++ free → v ≡ held' ++ free' → FitsBehind (Ready job s u) a (N (left_of job s u) (right_of job s u)) job.used t v r
-  fits_behind m k free free' r both left right fits end end' =
-      let ready = both_ready both in
-      let left' = left ∙ (λ i. at (is i) (is' i) job.left) ∙ at_held job.used s u job.left ready.left.lies in
-      let right' = right ∙ (λ i. at (is i) (is' i) job.right) ∙ at_held job.used s u job.right ready.right.lies in
-      inl (ready, subst₂ (λ (l : List State) (l' : List (Arc L)). Fits a (N (left_of job s u) (right_of job s u)) l l' r) (sym (rest job.used.states s t free held is end (omega (arith, in_use.states_fit)))) (sym (rest job.used.arcs u v free' held' is' end' (omega (arith, in_use.arcs_fit)))) (subst₂ (λ m k. Fits a (N m k) free free' r) left' right' fits))
-    where
-      rest : {X : Type 0} (n : ℕ) (xs ys free held : List X) → held ≡ take n xs → ys ≡ held ++ free → n ≤ length xs → drop n ys ≡ free
-      rest n xs ys free held is end low =
-          let long : length held ≡ n = ap (λ l. length l) is ∙ length-take n xs ∙ omega (arith, low) in
-          ap (drop n) end ∙ drop_at held free n long
+-- operands that stand, and what was written for them
+pub fits_behind : {S E L : Type 0} (a : Labels L) (N : Automaton L → Automaton L → Nfa S E L) (job : Operands) (s held free : List State) (u held' free' : List (Arc L)) (m k : Automaton L) (r : Result Rows Stop) →
+    InUse s u job.used → held ≡ take job.used.states s → held' ≡ take job.used.arcs u →
+    (StandsIn held held' job.left × StandsIn held held' job.right) × (m ≡ at held held' job.left) × (k ≡ at held held' job.right) → Fits a (N m k) free free' r →
+    FitsBehind (Ready job s u) a (N (left_of job s u) (right_of job s u)) job.used (held ++ free) (held' ++ free') r
+fits_behind a N job s held free u held' free' m k r in_use front front' found fits =
+    let ready = ready_held job s held u held' front front' in_use found.0 in
+    let operand = operand_held job s held u held' front front' in_use in
+    inl (
+      ready,
+      subst₂ (λ l l'. Fits a (N (left_of job s u) (right_of job s u)) l l' r) (sym (behind job.used.states s held free front (omega (arith, in_use.states_fit)))) (sym (behind job.used.arcs u held' free' front' (omega (arith, in_use.arcs_fit))))
+          (subst₂ (λ m k. Fits a (N m k) free free' r) (operand m job.left found.1 ready.left) (operand k job.right found.2 ready.right) fits),
+    )
 
 -- the place of rows that were built behind those in use
 abbrev pub placed : Rows → Result Rows Stop → Result Place Stop
@@ -145,10 +130,8 @@ module _ {S E L : Type 0} (a : Labels L) (N : Automaton L → Automaton L → Nf
       )
   answered r x is (inr h) = inr (λ ready. h.0 (record { in_use = in_use_back; left = stands_back job.left ready.left; right = stands_back job.right ready.right }), is ∙ ap (placed used) h.1)
 
--- what was built is the outcome
-pub outcome_of : {S E L : Type 0} (R : Type 0) (a : Labels L) (nfa : Nfa S E L) (used : Rows) (t : List State) (v : List (Arc L)) (p : Place) → Answer R a nfa used t v (Ok p) → Outcome a nfa used t v (Ok p)
-outcome_of R a nfa used t v p (inl h) = h.1
-outcome_of R a nfa used t v p (inr h) = let z : ◌≡◌ {A = ℕ} 0 1 = cc in absurd (omega arith)
-
-pub sizes_of : {S E L : Type 0} (R : Type 0) (a : Labels L) (nfa : Nfa S E L) (used : Rows) (t : List State) (v : List (Arc L)) (p : Place) → Answer R a nfa used t v (Ok p) → Sizes nfa p.count
-sizes_of R a nfa used t v p h = built_sizes a nfa used t v (Ok p) (outcome_of R a nfa used t v p h)
+-- what holds of all that is built holds of what was built
+pub meant : {S E L : Type 0} (R : Type 0) (a : Labels L) (nfa : Nfa S E L) (used : Rows) (t : List State) (v : List (Arc L)) (r : Result Place Stop) (P : Place → Type 0) → Answer R a nfa used t v r → ((p : Place) → Built a nfa used t v p → P p) → Meant r P
+meant R a nfa used t v (Ok p) P (inl h) so = so p h.1
+meant R a nfa used t v (Ok p) P (inr h) so = let z : ◌≡◌ {A = ℕ} 0 1 = cc in absurd (omega arith)
+meant R a nfa used t v (Err e) P h so = tt

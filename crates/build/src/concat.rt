@@ -2,15 +2,15 @@
 // state one more, on the same label, to each initial state of the second.
 ghost use Rattle.std.specs.Prelude.{◌≡◌, ◌<◌, ◌↔◌, map, length};
 ghost use Rattle.automaton.specs.Automaton.{Accepts, Inside, Word};
-ghost use Rattle.build.specs.Concats.{concats, concat_of, InTurn, ConcatSizes, nullable, kept_row, moved, begun, led_to, led_on, state_rows, arc_rows};
-ghost use Rattle.build.specs.Emitted.{Fits, FitsBehind};
+ghost use Rattle.build.specs.Concats.{Side, Link, concats, concat_of, InTurn, ConcatSizes, nullable, kept_row, moved, begun, led_to, led_on, state_rows, arc_rows};
+ghost use Rattle.build.specs.Emitted.{Fits};
 ghost use Rattle.build.specs.Outcome.{Answer, Meant, Sizes};
 ghost use Rattle.build.specs.Pairs.{Ready, left_of, right_of};
-ghost use Rattle.build.specs.Tables.{InUse, Kept, at};
+ghost use Rattle.build.specs.Tables.{Kept, at};
 ghost use Rattle.build.specs.Tails.{SameRows, Appended};
 
 use crate::input::{Input, Inputs};
-use crate::table::{arc_room, in_use, state_room};
+use crate::operation::{self, Operation};
 use crate::tail::{Full, Tail};
 use crate::{Operands, Place, Rows, Stop};
 use alphabet::Alphabet;
@@ -119,39 +119,34 @@ impl<A: Alphabet> Inputs<'_, A> {
         self.right.put_arcs(self.left.state_count(), out)?;
         self.lead_on(out)
     }
+}
 
-    // Writes the rows of the concatenation into free rows, and answers how many there are.
-    fn concat_rows(&self, states: &mut [State], arcs: &mut [Arc<A::Label>]) -> Result<Rows, Stop>
-        requires left_inside { Inside self.now.left }
-        requires right_inside { Inside self.now.right }
-        ensures builds { Fits A.Alphabet.labels (concats A.Alphabet.labels self.now.left self.now.right) states.new arcs.new result }
-    {
+// The concatenation, as an operation on two automata.
+struct Concatenation;
+
+impl<A: Alphabet> Operation<A> for Concatenation {
+    ghost Node = { Side };
+
+    ghost Edge = { Link };
+
+    ghost builds = { concats A.Alphabet.labels };
+
+    fn write(
+        inputs: &Inputs<'_, A>,
+        states: &mut [State],
+        arcs: &mut [Arc<A::Label>],
+    ) -> Result<Rows, Stop> {
         let mut states = Tail::new(states);
-        self.put_states(&mut states).map_err(|_| Stop::StatesFull)?;
+        inputs
+            .put_states(&mut states)
+            .map_err(|_| Stop::StatesFull)?;
         let mut arcs = Tail::new(arcs);
-        self.put_arcs(&mut arcs).map_err(|_| Stop::ArcsFull)?;
+        inputs.put_arcs(&mut arcs).map_err(|_| Stop::ArcsFull)?;
         Ok(Rows {
             states: states.written().len(),
             arcs: arcs.written().len(),
         })
     }
-}
-
-// Builds the concatenation behind the rows in use of tables all of whose rows count.
-fn concat_behind<A: Alphabet>(
-    states: &mut [State],
-    arcs: &mut [Arc<A::Label>],
-    job: Operands,
-) -> Result<Rows, Stop>
-    requires in_use { InUse states.old arcs.old job.used }
-    ensures answers { FitsBehind (Ready job states.old arcs.old) A.Alphabet.labels (concat_of A.Alphabet.labels job states.old arcs.old) job.used states.new arcs.new result }
-    ensures keeps_states { Kept job.used.states states.old states.new }
-    ensures keeps_arcs { Kept job.used.arcs arcs.old arcs.new }
-{
-    let (held_states, free_states) = states.split_at_mut(job.used.states);
-    let (held_arcs, free_arcs) = arcs.split_at_mut(job.used.arcs);
-    let inputs = Inputs::<A>::at(held_states, held_arcs, job).ok_or(Stop::Outside)?;
-    inputs.concat_rows(free_states, free_arcs)
 }
 
 // The concatenation of the two operands, built behind the rows in use.
@@ -169,14 +164,5 @@ pub fn concat<A: Alphabet>(
     ensures keeps_states { Kept job.used.states states.old states.new }
     ensures keeps_arcs { Kept job.used.arcs arcs.old arcs.new }
 {
-    if !in_use(states, arcs, job.used) {
-        return Err(Stop::Outside);
-    }
-    let state_room = state_room(states);
-    let arc_room = arc_room(arcs);
-    let count = concat_behind::<A>(&mut states[..state_room], &mut arcs[..arc_room], job)?;
-    Ok(Place {
-        first: job.used,
-        count,
-    })
+    operation::build::<A, Concatenation>(states, arcs, job)
 }

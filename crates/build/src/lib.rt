@@ -8,6 +8,7 @@ pub mod all_words;
 pub mod concat;
 mod input;
 pub mod operand;
+mod operation;
 mod pairs;
 pub mod product;
 mod table;

@@ -4,13 +4,13 @@ ghost use Rattle.std.specs.List.{ContainsAt as Has};
 ghost use Rattle.automaton.specs.Automaton.{Accepts, Word, arc_at};
 ghost use Rattle.build.specs.Emitted.{Paired, PairsWritten, PairsWrote, Fits};
 ghost use Rattle.build.specs.Outcome.{Answer, Meant, Sizes};
-ghost use Rattle.build.specs.Pairs.{Ready, products, product_of, left_of, right_of};
+ghost use Rattle.build.specs.Pairs.{Pair, Ready, products, product_of, left_of, right_of};
 ghost use Rattle.build.specs.Tables.{Kept, at};
 ghost use Rattle.build.specs.Tails.{written, SameRows};
 
 use crate::input::Inputs;
+use crate::operation::{self, Operation};
 use crate::pairs::{find, meets};
-use crate::table::{arc_room, in_use, state_room};
 use crate::tail::{Full, Tail};
 use crate::{Operands, Place, Rows, Stop};
 use alphabet::Alphabet;
@@ -76,24 +76,28 @@ impl<A: Alphabet> Inputs<'_, A> {
         }
         Ok(())
     }
+}
 
-    // Writes the rows of the product into as many free rows as there is room for, and answers how many there are.
-    fn product_rows(
-        &self,
+// The product, as an operation on two automata.
+struct DirectProduct;
+
+impl<A: Alphabet> Operation<A> for DirectProduct {
+    ghost Node = { Pair };
+
+    ghost Edge = { Pair };
+
+    ghost builds = { products A.Alphabet.labels };
+
+    fn write(
+        inputs: &Inputs<'_, A>,
         states: &mut [State],
         arcs: &mut [Arc<A::Label>],
-        room: Rows,
-    ) -> Result<Rows, Stop>
-        requires states_fit { room.states ≤ length states.old }
-        requires arcs_fit { room.arcs ≤ length arcs.old }
-        ensures builds { Fits A.labels (products A.labels self.now.left self.now.right) (take room.states states.new) (take room.arcs arcs.new) result }
-    {
-        let (states, _) = states.split_at_mut(room.states);
-        let (arcs, _) = arcs.split_at_mut(room.arcs);
+    ) -> Result<Rows, Stop> {
         let mut pairs = Tail::new(states);
-        self.explore(&mut pairs).map_err(|_| Stop::StatesFull)?;
+        inputs.explore(&mut pairs).map_err(|_| Stop::StatesFull)?;
         let mut out = Tail::new(arcs);
-        self.emit(pairs.written(), &mut out)
+        inputs
+            .emit(pairs.written(), &mut out)
             .map_err(|_| Stop::ArcsFull)?;
         Ok(Rows {
             states: pairs.written().len(),
@@ -116,21 +120,5 @@ pub fn product<A: Alphabet>(
     ensures keeps_states { Kept job.used.states states.old states.new }
     ensures keeps_arcs { Kept job.used.arcs arcs.old arcs.new }
 {
-    if !in_use(states, arcs, job.used) {
-        return Err(Stop::Outside);
-    }
-    let room = Rows {
-        states: state_room(states) - job.used.states,
-        arcs: arc_room(arcs) - job.used.arcs,
-    };
-    let (held_states, free_states) = states.split_at_mut(job.used.states);
-    let (held_arcs, free_arcs) = arcs.split_at_mut(job.used.arcs);
-    let Some(inputs) = Inputs::<A>::at(held_states, held_arcs, job) else {
-        return Err(Stop::Outside);
-    };
-    let count = inputs.product_rows(free_states, free_arcs, room)?;
-    Ok(Place {
-        first: job.used,
-        count,
-    })
+    operation::build::<A, DirectProduct>(states, arcs, job)
 }
