@@ -15,6 +15,7 @@ use automaton::{Arc, State};
 use build::{Place, Rows, operand};
 
 // Whether an arc has a letter, and leads from a state without a layer to one of the layer `top`.
+// A layer stands in `left`, since there is no memory but the lent rows; 0 there is no layer.
 fn rises<A: Alphabet>(states: &[State], arc: &Arc<A::Label>, top: usize) -> bool
     requires within { (arc.now.from < length states.now) × (arc.now.to < length states.now) }
     ensures decides { Decides result (Rises A.Alphabet.labels (layer states.now) top arc.now) }
@@ -23,6 +24,7 @@ fn rises<A: Alphabet>(states: &[State], arc: &Arc<A::Label>, top: usize) -> bool
 }
 
 // Whether an arc has a letter, and leads from q to a state of a layer.
+// Not one function with `rises`: one looks at where an arc begins, the other at the layer there.
 fn leads<A: Alphabet>(states: &[State], arc: &Arc<A::Label>, q: usize, next: usize) -> bool
     requires within { arc.now.to < length states.now }
     ensures decides { Decides result (Leads A.Alphabet.labels (layer states.now) q next arc.now) }
@@ -57,6 +59,7 @@ impl<L: Copy> Machine<'_, L> {
         ensures same { SameMachine self.old self.new }
     {
         let states = &mut *self.states;
+        // a `for` with a flag: of what a closure writes into the rows a proof learns nothing
         let mut more = false;
         for arc in self.arcs {
             if rises::<A>(states, arc, top) {
@@ -85,6 +88,7 @@ impl<L: Copy> Machine<'_, L> {
         requires within { IfSome best (λ b. b < length self.now.states.now) }
         ensures none { best ≡ None → result ≡ true }
     {
+        // a `match`: in a closure it is not known that b is a state
         match best {
             None => true,
             Some(b) => layer < self.states[b].left,
@@ -121,6 +125,7 @@ impl<L: Copy> Machine<'_, L> {
     }
 
     // Writes the letters on the way down from a state, and answers how many there are.
+    // The words and a place in them, not a slice from there on: so does the public `find` take them.
     fn spell<A: Alphabet<Label = L>>(&self, first: usize, words: &mut [u32], to: usize) -> usize
         requires layered { Layered A.Alphabet.labels (automaton self.now) (length self.now.states.now) (layer self.now.states.now) }
         requires start { Start (automaton self.now) (length self.now.states.now) (layer self.now.states.now) first }
@@ -188,6 +193,7 @@ pub fn find<A: Alphabet>(
     if !operand::stands(states, arcs, used, p) || !has_room(words, to, p.count.states) {
         return None;
     }
+    // the same cut stands in `membership::accepts`: the contract of a function for it would be longer than the cut
     let end = p.end();
     find_in::<A>(
         &mut states[p.first.states..end.states],
