@@ -1,12 +1,12 @@
 // A word of an automaton, found by layers of states: from the accepting ones back along the arcs.
-ghost use Rattle.std.specs.Prelude.{◌≡◌, ℕ, ◌+◌, ◌<◌, ◌≤◌, true, map, length, take, drop, is_some, None, IfSome, Decides, MatchOption};
+ghost use Rattle.std.specs.Prelude.{◌≡◌, ℕ, ◌+◌, ◌<◌, ◌≤◌, true, map, length, take, drop, is_some, IfSome, Decides, MatchOption};
 ghost use Rattle.std.specs.List.{ContainsAt as Has};
 ghost use Rattle.automaton.specs.Automaton.{Word, Accepts, initial, of_rows};
 ghost use Rattle.build.specs.Tables.{part, at, InUse, Stands};
 ghost use Rattle.words.specs.Layers.{layer, Begun, Leads, Rises, Layered, Upto, Complete, Round, Start};
 ghost use Rattle.words.specs.Machines.{automaton, SameMachine};
 ghost use Rattle.words.specs.Shortest.{Wrote};
-ghost use Rattle.words.specs.States.{LeadWithin};
+ghost use Rattle.words.specs.States.{LeadWithin, row};
 ghost use Rattle.words.specs.Words.{Renumbered};
 
 use crate::machine::Machine;
@@ -17,7 +17,8 @@ use build::{Place, Rows, operand};
 // Whether an arc has a letter, and leads from a state without a layer to one of the layer `top`.
 // A layer stands in `left`, since there is no memory but the lent rows; 0 there is no layer.
 fn rises<A: Alphabet>(states: &[State], arc: &Arc<A::Label>, top: usize) -> bool
-    requires within { (arc.now.from < length states.now) × (arc.now.to < length states.now) }
+    requires begins_within { arc.now.from < length states.now }
+    requires ends_within { arc.now.to < length states.now }
     ensures decides { Decides result (Rises A.Alphabet.labels (layer states.now) top arc.now) }
 {
     states[arc.from].left == 0 && states[arc.to].left == top && A::first(&arc.label).is_some()
@@ -26,7 +27,7 @@ fn rises<A: Alphabet>(states: &[State], arc: &Arc<A::Label>, top: usize) -> bool
 // Whether an arc has a letter, and leads from q to a state of a layer.
 // Not one function with `rises`: one looks at where an arc begins, the other at the layer there.
 fn leads<A: Alphabet>(states: &[State], arc: &Arc<A::Label>, q: usize, next: usize) -> bool
-    requires within { arc.now.to < length states.now }
+    requires ends_within { arc.now.to < length states.now }
     ensures decides { Decides result (Leads A.Alphabet.labels (layer states.now) q next arc.now) }
 {
     arc.from == q && states[arc.to].left == next && A::first(&arc.label).is_some()
@@ -86,7 +87,7 @@ impl<L: Copy> Machine<'_, L> {
     // Whether the layer is lower than that of the best state so far.
     fn lower(&self, layer: usize, best: Option<usize>) -> bool
         requires within { IfSome best (λ b. b < length self.now.states.now) }
-        ensures none { best ≡ None → result ≡ true }
+        ensures decides { MatchOption best (result ≡ true) (λ b. Decides result (layer < (row self.now.states.now b).left)) }
     {
         // a `match`: in a closure it is not known that b is a state
         match best {
@@ -148,7 +149,7 @@ impl<L: Copy> Machine<'_, L> {
     }
 }
 
-// Whether a word of fewer than n letters has room from a place on.
+// Whether a word of fewer than n letters has room from a place on. The words and the place are as `find` takes them.
 fn has_room(words: &[u32], to: usize, n: usize) -> bool
     ensures decides { Decides result (to + n ≤ length words.now + 1) }
 {
