@@ -89,11 +89,7 @@ impl<L: Copy> Machine<'_, L> {
         requires within { IfSome best (λ b. b < length self.now.states.now) }
         ensures decides { MatchOption best (result ≡ true) (λ b. Decides result (layer < (row self.now.states.now b).left)) }
     {
-        // a `match`: in a closure it is not known that b is a state
-        match best {
-            None => true,
-            Some(b) => layer < self.states[b].left,
-        }
+        best.is_none_or(|b| layer < self.states[b].left)
     }
 
     // An initial state of the lowest layer.
