@@ -49,7 +49,7 @@ impl<'a, L: Copy> Input<'a, L> {
     {
         let states = rows_from(states, place.first.states, place.count.states)?;
         let arcs = rows_from(arcs, place.first.arcs, place.count.arcs)?;
-        // not `then_some`: it would make an `Input` before its fact is known
+        // an `if`: in a closure passed to `then` it is not known where the arcs lead
         if lead_inside(arcs, states.len()) {
             Some(Input { states, arcs })
         } else {
