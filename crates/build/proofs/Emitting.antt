@@ -92,10 +92,6 @@ pub not_before : (x y : ℕ) → Before x y (x, y) → ⊥
 not_before x y (inl low) = omega arith
 not_before x y (inr here) = omega (arith, here.1)
 
-pub before_none : (z : Pair) → Before 0 0 z → ⊥
-before_none z (inl low) = omega arith
-before_none z (inr here) = omega (arith, here.1)
-
 -- after its last turn the inner loop is at the outer loop's next turn
 pub before_row : (x y : ℕ) (z : Pair) → Before x y z → Before (x + 1) 0 z
 before_row x y z (inl low) = inl (omega arith)

@@ -11,21 +11,13 @@ use Rattle.automaton.specs.Automaton.{Automaton, initial, arc_at, unmarked}
 use Rattle.automaton.specs.Nfa.{Meets, Reachable, begin, go, rows, product}
 use Rattle.automaton.specs.Numbers.{Numbers, MoreThan}
 use Rattle.automaton.proofs.Counting.{numbers_list}
-use Rattle.build.specs.declared.Place.{Place}
-use Rattle.build.specs.declared.Rows.{Rows}
 use Rattle.build.specs.declared.tail.Full.{Full}
 use Rattle.build.specs.declared.tail.Tail.{Tail}
 use Rattle.build.specs.Emitted.{Paired}
 use Rattle.build.specs.Pairs.{Pair, pair_of, pairs, products, row_of, Sofar, Grown, Extended, Distinct, BegunAt, Begun, ClosedBy, ClosedAt, Closed}
-use Rattle.build.specs.Tables.{at, InUse, Stands}
 use Rattle.build.specs.Tails.{written, room, SameRows, Pushed}
 use Rattle.build.proofs.Finding.{found_decides}
-use Rattle.build.proofs.Parts.{length_part}
 use Rattle.build.proofs.Places.{distinct_push, distinct_places}
-
--- an automaton that stands has the counted states
-pub states_count : {L : Type 0} (states : List State) (arcs : List (Arc L)) (used : Rows) (p : Place) → InUse states arcs used → Stands states arcs used p → length (at states arcs p).states ≡ p.count.states
-states_count states arcs used p use' h = length-map _ (λ (s : State). s.marks) ∙ length_part states p.first.states p.count.states (omega (arith, use'.states_fit, h.lies.states))
 
 -- the pair of a row
 pub pair_at : (rows : List State) (i : ℕ) (d : State) → i < length rows → get_or (pairs rows) i (0, 0) ≡ pair_of (get_or rows i d)

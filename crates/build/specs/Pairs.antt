@@ -9,10 +9,9 @@ use Rattle.automaton.specs.Automaton.{Automaton, initial, arc_at, unmarked}
 use Rattle.automaton.specs.Nfa.{Nfa, Meets, rows, product}
 use Rattle.automaton.specs.Numbers.{MoreThan}
 use Rattle.build.specs.declared.Operands.{Operands}
-use Rattle.build.specs.declared.Place.{Place}
 use Rattle.build.specs.declared.tail.Full.{Full}
 use Rattle.build.specs.declared.tail.Tail.{Tail}
-use Rattle.build.specs.Tables.{part, at, InUse, Stands}
+use Rattle.build.specs.Tables.{at, InUse, Stands}
 use Rattle.build.specs.Tails.{written, room}
 
 abbrev pub Pair : Type 0
@@ -52,9 +51,6 @@ pub record Ready {L : Type 0} (job : Operands) (states : List State) (arcs : Lis
 -- a pair of states has the marks that both have
 abbrev pub both : Marks → Marks → Marks
 both s t = record { initial = s.initial && t.initial; accepting = s.accepting && t.accepting }
-
-abbrev pub marks_in : List State → Place → ℕ → Marks
-marks_in states p q = slice_index_or (map (λ s. s.marks) (part states p.first.states p.count.states)) q unmarked
 
 -- the row of a pair
 abbrev pub row_of : {L : Type 0} → Automaton L → Automaton L → ℕ → ℕ → State

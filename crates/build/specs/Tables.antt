@@ -1,6 +1,5 @@
 -- Automata in lent tables: a table of state rows and a table of arc rows.
-use Rattle.std.specs.Prelude.{◌≡◌, ℕ, ◌+◌, ◌≤◌, min, List, length, take, drop, slice_index_or}
-use Rattle.alphabet.specs.Labels.{Labels}
+use Rattle.std.specs.Prelude.{◌≡◌, ℕ, ◌+◌, ◌≤◌, min, List, length, take, drop}
 use Rattle.automaton.specs.declared.State.{State}
 use Rattle.automaton.specs.declared.Arc.{Arc}
 use Rattle.automaton.specs.Automaton.{Automaton, of_rows, Inside}
@@ -25,10 +24,6 @@ at states arcs p = of_rows (part states p.first.states p.count.states) (part arc
 -- the rows before the end of a place, which the numbers of a table count
 abbrev pub end : Place → Rows
 end p = record { states = min (p.first.states + p.count.states) 18446744073709551615; arcs = min (p.first.arcs + p.count.arcs) 18446744073709551615 }
-
--- an arc of the automaton at a place
-abbrev pub arc_in : {L : Type 0} → Labels L → List (Arc L) → Place → ℕ → Arc L
-arc_in a arcs p k = slice_index_or (part arcs p.first.arcs p.count.arcs) k (record { from = 0; label = a.full; to = 0 })
 
 -- the rows in use are rows of the tables that count
 pub record InUse {L : Type 0} (states : List State) (arcs : List (Arc L)) (used : Rows) : Type 0 where

@@ -10,7 +10,7 @@ written t = take t.count t.rows.now
 abbrev pub room : {T : Type 0} → Tail T → ℕ
 room t = length t.rows.now
 
--- both write into the same lent rows
+-- both write into the same lent rows; each function on a tail says it, or its lender's rows are not known afterwards
 pub record SameRows {T : Type 0} (before after : Tail T) : Type 0 where
   pub rows : after.rows.ghost_name ≡ before.rows.ghost_name
   pub long : room after ≡ room before

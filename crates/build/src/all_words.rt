@@ -35,6 +35,7 @@ pub fn all_words<A: Alphabet>(
         initial: true,
         accepting: true,
     });
+    // written out, though `giver::no_arc` is the same arc: `build` does not stand above `giver`
     arcs[used.arcs] = Arc {
         from: 0,
         label: A::full(),

@@ -1,5 +1,4 @@
-// The concatenation of two automata: the states and arcs of both, and for each arc of the first into an accepting
-// state one more, on the same label, to each initial state of the second.
+// The concatenation of two automata: the arcs of the first into accepting states also lead on into the second.
 ghost use Rattle.std.specs.Prelude.{◌≡◌, ◌<◌, ◌↔◌, map, length};
 ghost use Rattle.automaton.specs.Automaton.{Accepts, Inside, Word};
 ghost use Rattle.build.specs.Concats.{Side, Link, concats, concat_of, InTurn, ConcatSizes, nullable, kept_row, moved, begun, led_to, led_on, state_rows, arc_rows};
@@ -40,7 +39,7 @@ impl<L: Copy> Input<'_, L> {
         Ok(())
     }
 
-    // Copies the arcs, whose states now lie so much further on.
+    // Copies the arcs, whose states now lie so much further on. The bound is that of `state_count`.
     fn put_arcs(&self, offset: usize, out: &mut Tail<'_, Arc<L>>) -> Result<(), Full>
         requires numbered { offset < 9223372036854775808 }
         ensures appends { Appended out.old out.new (map (moved offset) self.now.arcs) result }

@@ -19,6 +19,7 @@ fn rows_from<T>(rows: &[T], first: usize, count: usize) -> Option<&[T]>
 }
 
 // Whether all arcs lead from a state to a state, where there are so many states.
+// `giver` asks the same of a giver's arcs: neither crate stands above the other, and here are rows.
 fn lead_inside<L>(arcs: &[Arc<L>], states: usize) -> bool
     ensures decides { IsTrue result ↔ All (λ b. (b.from < states) × (b.to < states)) arcs.now }
 {
@@ -48,6 +49,7 @@ impl<'a, L: Copy> Input<'a, L> {
     {
         let states = rows_from(states, place.first.states, place.count.states)?;
         let arcs = rows_from(arcs, place.first.arcs, place.count.arcs)?;
+        // an `if`: in a closure passed to `then` it is not known where the arcs lead
         if lead_inside(arcs, states.len()) {
             Some(Input { states, arcs })
         } else {
@@ -64,6 +66,7 @@ impl<'a, L: Copy> Input<'a, L> {
             .map_or(Marks::default(), |state| state.marks)
     }
 
+    // The bound is 2^63: a sum of two such numbers is a number again.
     pub fn state_count(&self) -> usize
         ensures counts { result ≡ length self.now.states }
         ensures numbered { length self.now.states < 9223372036854775808 }
@@ -77,6 +80,7 @@ impl<'a, L: Copy> Input<'a, L> {
         self.states
     }
 
+    // The bound is here as well, for who walks the arcs and does not ask for the count.
     pub fn arcs(&self) -> &[Arc<L>]
         ensures reads { result.now ≡ self.now.arcs }
         ensures inside { All (λ b. (b.from < length self.now.states) × (b.to < length self.now.states)) result.now }

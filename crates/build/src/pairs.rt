@@ -44,6 +44,7 @@ impl<A: Alphabet> Inputs<'_, A> {
     }
 
     // Adds the row of a pair, unless it is there.
+    // `Sofar` and `reachable` are no ghost fields: such a field has one proof at most, and these have many.
     fn add(&self, pairs: &mut Tail<'_, State>, p: usize, q: usize) -> Result<(), Full>
         requires sofar { Sofar A.labels self.now.left self.now.right (written pairs.old) }
         requires reachable { (products A.labels self.now.left self.now.right).State (p, q) }

@@ -17,6 +17,8 @@ use alphabet::Alphabet;
 use automaton::{Arc, State};
 
 impl<A: Alphabet> Inputs<'_, A> {
+    // `Paired` is no ghost field of the rows: such a field has one proof at most, and `Paired` has many.
+
     // Writes the arc of two arcs, if their labels meet and they leave a reachable pair.
     fn emit_pair(
         &self,

@@ -7,7 +7,7 @@ use Rattle.std.proofs.lemmas.Bool.{cases_lt, cases_eq, both_ways, false≢true}
 use Rattle.std.proofs.lemmas.List.FromFn.{length-range_with_len, get_or-range_with_len}
 use Rattle.alphabet.specs.Labels.{Labels, Set}
 use Rattle.automaton.specs.declared.Arc.{Arc}
-use Rattle.automaton.specs.Automaton.{Automaton, Word, Walk, stay, Accepts, Inside, initial, accepting, unmarked, arc_at}
+use Rattle.automaton.specs.Automaton.{Automaton, Word, Walk, stay, Accepts, Inside, initial, unmarked, arc_at}
 use Rattle.automaton.proofs.Walks.{walk_nil, walk_split, walk_push, walk_letter}
 use Rattle.giver.specs.Run.{In, Reached, Stepped, SomeAccepts}
 
@@ -142,6 +142,3 @@ module _ {L : Type 0} {admits : L → Set} (m : Automaton L) where
 -- a state that is not there has no mark
 pub initial_past : {L : Type 0} (m : Automaton L) (q : ℕ) → length m.states ≤ q → initial m q ≡ false
 initial_past m q h = ap (λ s. s.initial) (get_or_past m.states q unmarked h)
-
-pub accepting_past : {L : Type 0} (m : Automaton L) (q : ℕ) → length m.states ≤ q → accepting m q ≡ false
-accepting_past m q h = ap (λ s. s.accepting) (get_or_past m.states q unmarked h)

@@ -1,13 +1,13 @@
 -- The automaton of a fixed text accepts just the text.
-use Rattle.std.proofs.Common.{◌≡◌, ℕ, suc, ◌+◌, ◌<◌, ◌≤◌, true, ltb, leb, List, [], ◌∷◌, length, get_or, drop, sym, refl, ap, ◌∙◌, subst, inl, inr, add-zero, zero-add, arith}
+use Rattle.std.proofs.Common.{◌≡◌, ℕ, suc, ◌+◌, ◌<◌, ◌≤◌, true, ltb, leb, List, [], ◌∷◌, length, get_or, drop, sym, refl, ap, ◌∙◌, subst, add-zero, zero-add, arith}
 use Rattle.std.specs.List.{ContainsAt as Has, AllByRecursion as All}
 use Rattle.std.proofs.lemmas.List.{drop_more, drop_all}
 use Rattle.std.proofs.lemmas.Bool.{and_parts, and_from, lt-ltb, leb-true, le-leb, eqb-true, eq-eqb}
 use Rattle.alphabet.specs.Labels.{Labels, Lawful, Ranged}
 use Rattle.automaton.specs.declared.Arc.{Arc}
-use Rattle.automaton.specs.Automaton.{Automaton, Word, Walk, stay, step, Inside}
+use Rattle.automaton.specs.Automaton.{Word, Walk, stay, step, Inside}
 use Rattle.automaton.proofs.Walks.{walk_letters}
-use Rattle.giver.specs.Told.{Sound, Cause}
+use Rattle.giver.specs.Told.{Sound}
 use Rattle.giver.specs.Fixed.{chain, chain_arcs, AcceptsJust}
 use Rattle.giver.proofs.Chain.{link, chain_arcs_length, get_or-chain_arcs, chain_marks_length, chain_marks_at}
 
@@ -31,11 +31,6 @@ chain_inside range text b has =
 pub chain_sound : {L : Type 0} (range : ℕ → ℕ → L) (text : Word) → length text ≤ 255 → Sound (chain range text)
 chain_sound range text h =
     ((omega (arith, chain_marks_length (length text)), omega (arith, chain_arcs_length range 0 text)), chain_inside range text)
-
--- a sound automaton has no cause of a refusal
-pub never_refused : {L : Type 0} (m : Automaton L) (n : ℕ) → Sound m → Cause m n → ⊥
-never_refused m n sound (inl large) = large.1 sound.0
-never_refused m n sound (inr outside) = outside.2 sound.1
 
 module _ {L : Type 0} {a : Labels L} {range : ℕ → ℕ → L} (laws : Lawful a) (ranged : Ranged a range) where
   -- the label of one letter admits that letter, if the alphabet has it

@@ -12,9 +12,10 @@ pub const MAX_STATES: usize = 256;
 
 pub const MAX_ARCS: usize = 4096;
 
-// A set of states: a mark for each, since there is no heap.
+// A set of states: a mark for each, since there is no heap. No type as `PartSet` of `sheet`: it needs no methods.
 type StateSet = [bool; MAX_STATES];
 
+// `build` asks the same of rows. Here there are none: a giver tells an arc by its number.
 fn leads_inside<A: Alphabet, G: Giver<A>>(giver: &G) -> bool
     ensures decides { Decides result (Inside (G.Giver.automaton giver.now)) }
 {

@@ -22,6 +22,7 @@ pub enum Refusal {
 }
 
 impl Refusal {
+    // The numbers are those of docs/RULES.md.
     pub fn number(self) -> u32
         ensures is_number { result ≡ number self }
     {

@@ -1,6 +1,4 @@
-// Whether an automaton accepts a word, by running it along the word. The set of states that it can be in is kept in
-// the two numbers of its own rows: left is 1 for the states of the set, and right for those of the next one.
-// Not `giver::accepts` over these rows: its set is an array of 256 marks, and an automaton here can have more states.
+// Whether an automaton accepts a word, by running it along the word.
 ghost use Rattle.std.specs.Prelude.{◌≡◌, map, length, Decides};
 ghost use Rattle.automaton.specs.Automaton.{Accepts, of_rows};
 ghost use Rattle.build.specs.Tables.{InUse, Stands, at};
@@ -14,6 +12,8 @@ use alphabet::Alphabet;
 use automaton::{Arc, State};
 use build::{Place, Rows, operand};
 
+// The states that it can be in are marked in its own rows: `left` is 1 for those of the set, `right` for the next set.
+// Not `giver::accepts` over these rows: its set is an array of 256 marks, and an automaton here can have more states.
 impl<L: Copy> Machine<'_, L> {
     // The initial states are the set.
     fn begin(&mut self)
@@ -94,6 +94,7 @@ pub fn accepts<A: Alphabet>(
     if !operand::stands(states, arcs, used, p) {
         return false;
     }
+    // the same cut stands in `shortest::find`: the contract of a function for it would be longer than the cut
     let end = p.end();
     accepts_in::<A>(
         &mut states[p.first.states..end.states],

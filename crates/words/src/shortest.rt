@@ -1,12 +1,12 @@
 // A word of an automaton, found by layers of states: from the accepting ones back along the arcs.
-ghost use Rattle.std.specs.Prelude.{◌≡◌, ℕ, ◌+◌, ◌<◌, ◌≤◌, true, map, length, take, drop, is_some, None, IfSome, Decides, MatchOption};
+ghost use Rattle.std.specs.Prelude.{◌≡◌, ℕ, ◌+◌, ◌<◌, ◌≤◌, true, map, length, take, drop, is_some, IfSome, Decides, MatchOption};
 ghost use Rattle.std.specs.List.{ContainsAt as Has};
 ghost use Rattle.automaton.specs.Automaton.{Word, Accepts, initial, of_rows};
 ghost use Rattle.build.specs.Tables.{part, at, InUse, Stands};
 ghost use Rattle.words.specs.Layers.{layer, Begun, Leads, Rises, Layered, Upto, Complete, Round, Start};
 ghost use Rattle.words.specs.Machines.{automaton, SameMachine};
 ghost use Rattle.words.specs.Shortest.{Wrote};
-ghost use Rattle.words.specs.States.{LeadWithin};
+ghost use Rattle.words.specs.States.{LeadWithin, row};
 ghost use Rattle.words.specs.Words.{Renumbered};
 
 use crate::machine::Machine;
@@ -15,16 +15,19 @@ use automaton::{Arc, State};
 use build::{Place, Rows, operand};
 
 // Whether an arc has a letter, and leads from a state without a layer to one of the layer `top`.
+// A layer stands in `left`, since there is no memory but the lent rows; 0 there is no layer.
 fn rises<A: Alphabet>(states: &[State], arc: &Arc<A::Label>, top: usize) -> bool
-    requires within { (arc.now.from < length states.now) × (arc.now.to < length states.now) }
+    requires begins_within { arc.now.from < length states.now }
+    requires ends_within { arc.now.to < length states.now }
     ensures decides { Decides result (Rises A.Alphabet.labels (layer states.now) top arc.now) }
 {
     states[arc.from].left == 0 && states[arc.to].left == top && A::first(&arc.label).is_some()
 }
 
 // Whether an arc has a letter, and leads from q to a state of a layer.
+// Not one function with `rises`: one looks at where an arc begins, the other at the layer there.
 fn leads<A: Alphabet>(states: &[State], arc: &Arc<A::Label>, q: usize, next: usize) -> bool
-    requires within { arc.now.to < length states.now }
+    requires ends_within { arc.now.to < length states.now }
     ensures decides { Decides result (Leads A.Alphabet.labels (layer states.now) q next arc.now) }
 {
     arc.from == q && states[arc.to].left == next && A::first(&arc.label).is_some()
@@ -57,6 +60,7 @@ impl<L: Copy> Machine<'_, L> {
         ensures same { SameMachine self.old self.new }
     {
         let states = &mut *self.states;
+        // a `for` with a flag: of what a closure writes into the rows a proof learns nothing
         let mut more = false;
         for arc in self.arcs {
             if rises::<A>(states, arc, top) {
@@ -83,12 +87,9 @@ impl<L: Copy> Machine<'_, L> {
     // Whether the layer is lower than that of the best state so far.
     fn lower(&self, layer: usize, best: Option<usize>) -> bool
         requires within { IfSome best (λ b. b < length self.now.states.now) }
-        ensures none { best ≡ None → result ≡ true }
+        ensures decides { MatchOption best (result ≡ true) (λ b. Decides result (layer < (row self.now.states.now b).left)) }
     {
-        match best {
-            None => true,
-            Some(b) => layer < self.states[b].left,
-        }
+        best.is_none_or(|b| layer < self.states[b].left)
     }
 
     // An initial state of the lowest layer.
@@ -121,6 +122,7 @@ impl<L: Copy> Machine<'_, L> {
     }
 
     // Writes the letters on the way down from a state, and answers how many there are.
+    // The words and a place in them, not a slice from there on: so does the public `find` take them.
     fn spell<A: Alphabet<Label = L>>(&self, first: usize, words: &mut [u32], to: usize) -> usize
         requires layered { Layered A.Alphabet.labels (automaton self.now) (length self.now.states.now) (layer self.now.states.now) }
         requires start { Start (automaton self.now) (length self.now.states.now) (layer self.now.states.now) first }
@@ -143,7 +145,7 @@ impl<L: Copy> Machine<'_, L> {
     }
 }
 
-// Whether a word of fewer than n letters has room from a place on.
+// Whether a word of fewer than n letters has room from a place on. The words and the place are as `find` takes them.
 fn has_room(words: &[u32], to: usize, n: usize) -> bool
     ensures decides { Decides result (to + n ≤ length words.now + 1) }
 {
@@ -188,6 +190,7 @@ pub fn find<A: Alphabet>(
     if !operand::stands(states, arcs, used, p) || !has_room(words, to, p.count.states) {
         return None;
     }
+    // the same cut stands in `membership::accepts`: the contract of a function for it would be longer than the cut
     let end = p.end();
     find_in::<A>(
         &mut states[p.first.states..end.states],

@@ -13,7 +13,7 @@ use Rattle.words.proofs.machine.Machine.round.Goals as goal
 use Rattle.words.proofs.machine.Machine.round.Goals.{then-rises, else-rises}
 
 pub rises-requires : goal.rises-requires
-rises-requires g c = let both = arc_ends _ _ _ c.loop-arc-test.true c.arc-item.is _ c.args.self.now.inside in record { within = (omega arith, omega arith) }
+rises-requires g c = let both = arc_ends _ _ _ c.loop-arc-test.true c.arc-item.is _ c.args.self.now.inside in record { begins_within = omega arith; ends_within = omega arith }
 
 pub loop-arc-init : goal.loop-arc-init
 loop-arc-init g c =
