@@ -31,6 +31,9 @@ impl Halt {
     }
 }
 
+// `Went` takes rows, not `Tables`: its laws are of rows alone, and a proof names those between two builds.
+// `AllStand` is of places and rows, `parts_finished` of joins and parts: no type holds both, so each function asks.
+// Patterns and joins have functions of their own: what they are met with has other contracts.
 impl<A: Alphabet> Tables<'_, '_, A> {
     // Meets the running result with a pattern, if it is one of the part.
     fn meet_pattern(&mut self, running: Place, held: Held, part: usize) -> Result<Place, Halt>
