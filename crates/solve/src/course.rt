@@ -169,6 +169,7 @@ impl<A: Alphabet> Tables<'_, '_, A> {
         let joins = sheet.joins();
         let mut finished = ArrayVec::new();
         while let Some(part) = next(parts, joins, &finished) {
+            // two arms: `map_err` with a closure that takes the part, and `?`, is no plainer
             match self.build_part(patterns, joins, &finished, part) {
                 Ok(place) => finished.push(Held { part, place }),
                 Err(halt) => return Err(halt.at(part)),
