@@ -9,10 +9,6 @@ use Rattle.giver.proofs.Running.{none_marked}
 use Rattle.sheet.specs.declared.Join.{Join}
 use Rattle.sheet.specs.Joins.{Uses, Below, one, more, Acyclic, Known, AtOrBelow, Closes, Marked, Settled}
 
-pub nothing_below : {x y : ℕ} → Below [] x y → ⊥
-nothing_below (one u) = omega (arith, u.1.1)
-nothing_below (more u b) = omega (arith, u.1.1)
-
 module _ (js : List Join) where
   pub below_then : {x y z : ℕ} → Below js x y → Below js y z → Below js x z
   below_then (one u) k = more u k

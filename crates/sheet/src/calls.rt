@@ -16,6 +16,7 @@ use giver::Giver;
 use giver::accepts::check;
 
 impl Refusal {
+    // Its number in docs/RULES.md: written out, so that each number stands beside its name.
     pub fn number(self) -> u32
         ensures is_number { result ≡ number self }
     {

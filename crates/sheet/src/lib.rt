@@ -43,7 +43,7 @@ pub struct Join {
     pub right: usize,
 }
 
-// Those of a giver come in by `From`; this enum has six more, and one number for each.
+// Why a call is refused. The two refusals of a giver come in by `From`; here are six more, and a number for each.
 #[derive(Clone, Copy, Debug, PartialEq, Eq)]
 pub enum Refusal {
     // a part number is not below the count
@@ -65,6 +65,7 @@ pub enum Refusal {
 }
 
 // No value of this type has joins with a circle.
+// Contracts write the limits as numbers: the proof fails if a constant is another number.
 #[derive(Drop)]
 pub struct Sheet {
     parts: usize,

@@ -6,7 +6,8 @@ ghost use Rattle.sheet.specs.Joins.{Marked, Settled};
 use crate::{Join, MAX_PARTS};
 use std::marker::Model;
 
-// A set of parts, as a mark for each.
+// A set of parts, as a mark for each, since there is no heap.
+// Not one type with the set of states in `giver`: that one is private, and has 256 marks.
 #[derive(Drop)]
 pub struct PartSet {
     marks: [bool; MAX_PARTS],

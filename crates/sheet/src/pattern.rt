@@ -6,6 +6,7 @@ use automaton::{Arc, State};
 use build::{ARC_ROWS, Rows, STATE_ROWS};
 
 // Whether so many rows fit in the tables.
+// `build` has this test in a private module: to make it public for one caller is no plainer.
 pub fn fits<L: Copy>(states: &[State], arcs: &[Arc<L>], rows: Rows) -> bool
     ensures decides { Decides result (InUse states.now arcs.now rows) }
 {
@@ -13,7 +14,8 @@ pub fn fits<L: Copy>(states: &[State], arcs: &[Arc<L>], rows: Rows) -> bool
 }
 
 // Writes so many rows from a place on, each by its number.
-// By index: of rows that are written through iter_mut a proof knows nothing.
+// All rows and `at`, not a cut of them: the contract says that what stands before `at` is kept.
+// By index: of rows that are written through iter_mut a proof knows no more than how many there are.
 pub fn write_rows<T: Copy, F: Fn(usize) -> T>(rows: &mut [T], at: usize, count: usize, row: F)
     requires callable { F.IsAlwaysCallable row }
     requires room { at + count ≤ length rows.old }

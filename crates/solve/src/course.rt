@@ -31,6 +31,9 @@ impl Halt {
     }
 }
 
+// `Went` takes rows, not `Tables`: its laws are of rows alone, and a proof names those between two builds.
+// `AllStand` is of places and rows, `parts_finished` of joins and parts: no type holds both, so each function asks.
+// Patterns and joins have functions of their own: what they are met with has other contracts.
 impl<A: Alphabet> Tables<'_, '_, A> {
     // Meets the running result with a pattern, if it is one of the part.
     fn meet_pattern(&mut self, running: Place, held: Held, part: usize) -> Result<Place, Halt>
@@ -166,6 +169,7 @@ impl<A: Alphabet> Tables<'_, '_, A> {
         let joins = sheet.joins();
         let mut finished = ArrayVec::new();
         while let Some(part) = next(parts, joins, &finished) {
+            // two arms: `map_err` with a closure that takes the part, and `?`, is no plainer
             match self.build_part(patterns, joins, &finished, part) {
                 Ok(place) => finished.push(Held { part, place }),
                 Err(halt) => return Err(halt.at(part)),

@@ -83,6 +83,7 @@ pub fn solve<A: Alphabet>(
     }
     let (used, ended) = build_all::<A>(sheet, states, arcs);
     let totals = totals(counts.held, used);
+    // each arm gives its own answer: a `let` of the verdict over both arms is no plainer
     match ended {
         Ok(finished) => {
             let verdict = judge::<A>(

@@ -8,6 +8,8 @@ ghost use Rattle.solve.specs.Report.{place_of};
 use build::Place;
 use sheet::{Held, Join};
 
+// Functions over a slice, no type of finished parts: it would wrap a vector and pass on its `push`.
+
 // The part of that number with the place of its final result, if it is finished.
 pub fn find(finished: &[Held], part: usize) -> Option<Held>
     ensures finds { result ≡ find_part (λ h. h.part) finished.now part }

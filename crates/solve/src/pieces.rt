@@ -20,7 +20,7 @@ use sheet::Join;
 use sheet::marking::{PartSet, unsettled};
 use words::splitting::split;
 
-// The roots among the parts.
+// The roots among the parts. 64 is `MAX_PARTS`: a contract writes a limit as a number.
 fn roots(plan: &Plan) -> PartSet
     ensures long { length result ≡ 64 }
     ensures all { (p : ℕ) → p < plan.now.parts → Root plan.now.joins.now p → Marked result p }
@@ -58,6 +58,7 @@ fn split_join<A: Alphabet>(
     let whole = report[join.whole].word;
     let left = report[join.left].automaton;
     let right = report[join.right].automaton;
+    // cut here: no other function here cuts a word out
     let letters = &words[whole.first..][..whole.len];
     let Some(len) = split::<A>(states, arcs, used, left, right, letters) else {
         unreachable()

@@ -16,6 +16,7 @@ use build::Rows;
 use words::shortest;
 
 // Finds a word for a part, writes it from `end` on, and answers how many letters it has.
+// `end`, not a cut of the words: `find` takes it, and the row of the report keeps it.
 fn place_root<A: Alphabet>(
     states: &mut [State],
     arcs: &[Arc<A::Label>],
@@ -57,6 +58,7 @@ pub fn place_roots<A: Alphabet>(
     ensures lays { RootsLaid plan.now.joins.now plan.now.parts report.new words.old words.new }
     ensures accepts { (p : ℕ) → p < plan.now.parts → Root plan.now.joins.now p → Worded A.Alphabet.labels.admits states.old arcs.now report.new words.new p }
 {
+    // a loop: each word begins where the one before ends
     let mut end = 0;
     for part in 0..plan.parts {
         if is_root(plan.joins, part) {

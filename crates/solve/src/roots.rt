@@ -40,6 +40,7 @@ impl Plan<'_> {
         ensures finds { MatchOption result (roots_below self.now.joins.now (bound_in finished.now) self.now.parts ≤ words)
             (λ p. (p < self.now.parts) × Root self.now.joins.now p × (roots_below self.now.joins.now (bound_in finished.now) p ≤ words) × (words < roots_below self.now.joins.now (bound_in finished.now) p + bound_in finished.now p)) }
     {
+        // a loop: `try_fold` would carry the same sum and end at the same root
         let mut sum = 0;
         for part in 0..self.parts {
             if is_root(self.joins, part) {

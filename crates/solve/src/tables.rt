@@ -36,6 +36,7 @@ impl From<Table> for Halt {
     }
 }
 
+// The rows of the lent tables, and how many of them are in use.
 #[derive(Drop)]
 pub struct Tables<'s, 'a, A: Alphabet> {
     pub states: &'s mut [State],
@@ -53,13 +54,15 @@ impl<'s, 'a, A: Alphabet> Tables<'s, 'a, A> {
         requires in_use { InUse states.old arcs.old used }
         ensures same_states { result.states.ghost_name ≡ states.entry.ghost_name }
         ensures same_arcs { result.arcs.ghost_name ≡ arcs.entry.ghost_name }
-        ensures lent { (result.states.now ≡ states.old) × (result.arcs.now ≡ arcs.old) × (result.used ≡ used) }
+        ensures lent_states { result.states.now ≡ states.old }
+        ensures lent_arcs { result.arcs.now ≡ arcs.old }
+        ensures lent_used { result.used ≡ used }
     {
         Tables { states, arcs, used }
     }
 }
 
-// The table that a build passes. Not `From`: a build that cannot be made passes no table of rows, and none here is such.
+// The table that a build passes. Not `From`: `Outside` names no table, and does not come here.
 fn table_of(stop: Stop) -> Table
     ensures names { result ≡ passed stop }
 {
@@ -77,6 +80,8 @@ fn some_accepts(states: &[State]) -> bool
     states.iter().any(|state| state.marks.accepting)
 }
 
+// `same_states`, `same_arcs`: without them a caller knows nothing of the lent rows after the last call.
+// `Stands` at each function, not in a type of places: it holds of the rows as they are, and a build changes these.
 impl<A: Alphabet> Tables<'_, '_, A> {
     // All words.
     pub fn all_words(&mut self) -> Result<Place, Table>
@@ -90,6 +95,7 @@ impl<A: Alphabet> Tables<'_, '_, A> {
     }
 
     // The product of two automata.
+    // Not one function with `concat`, given the build: its contract would stand once more, as that of a parameter.
     fn product(&mut self, left: Place, right: Place) -> Result<Place, Table>
         requires left_stands { Stands self.old.states.now self.old.arcs.now self.old.used left }
         requires right_stands { Stands self.old.states.now self.old.arcs.now self.old.used right }
@@ -120,6 +126,7 @@ impl<A: Alphabet> Tables<'_, '_, A> {
     }
 
     // Whether some state of the automaton accepts.
+    // Cut here, not by a method of `Place`: no other function here cuts states by a place.
     fn is_alive(&self, place: Place) -> bool
         requires fits { place.first.states + place.count.states ≤ length self.now.states.now }
         ensures tests { result ≡ list_any (λ (s : State). s.marks.accepting) (part self.now.states.now place.first.states place.count.states) }
@@ -128,6 +135,7 @@ impl<A: Alphabet> Tables<'_, '_, A> {
     }
 
     // Meets the running result with an automaton.
+    // With `if`: `then_some(met).ok_or(Halt::Empty)` is no plainer.
     pub fn meet(&mut self, running: Place, with: Place) -> Result<Place, Halt>
         requires running_stands { Stands self.old.states.now self.old.arcs.now self.old.used running }
         requires other_stands { Stands self.old.states.now self.old.arcs.now self.old.used «with» }
