@@ -28,6 +28,7 @@ fn join(sheet: &mut Sheet, whole: usize, left: usize, right: usize) -> u32 {
 }
 
 // The answer to a table as a pattern of the part, for a sheet that keeps its rows in states and arcs.
+// Tables of their own and no struct: each test lends other lengths.
 fn give(
     sheet: &mut Sheet,
     states: &mut [State],

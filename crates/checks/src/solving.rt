@@ -134,7 +134,7 @@ impl Desk {
                 .is_some_and(|words| words.starts_with(letters))
     }
 
-    // Whether the rows of the report from there on are as they were.
+    // Whether the rows of the report from there on are as they were. Not one function over a slice: no test would be shorter.
     fn report_stays_from(&self, part: usize) -> bool {
         self.report.iter().skip(part).all(|row| *row == MARKED)
     }
