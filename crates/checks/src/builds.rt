@@ -10,11 +10,13 @@ use build::concat::concat;
 use build::product::product;
 use build::{Operands, Place, Rows, Stop};
 use giver::accepts::accepts;
+use giver::no_arc;
 use giver::table::Table;
 use std::test::Fail;
 
 const USED: Rows = Rows { states: 5, arcs: 3 };
 
+// Places are written out: each test shows the rows that it reads.
 const ALL_WORDS: Place = Place {
     first: Rows { states: 0, arcs: 0 },
     count: Rows { states: 1, arcs: 1 },
@@ -47,7 +49,7 @@ fn states() -> [State; 8] {
 }
 
 fn arcs() -> [Arc<TextLabel>; 6] {
-    let spare = arc(0, Text::full(), 0);
+    let spare = no_arc::<Text>();
     [
         arc(0, Text::full(), 0),
         arc(0, Text::range(65, 65), 1),
@@ -92,10 +94,10 @@ fn all_words_and_a(rt: HostRuntime) {
         states: &states[5..7],
         arcs: &arcs[3..4],
     };
-    assert_eq!(rt; accepts(&built, &[65]).ok(), Some(true));
-    assert_eq!(rt; accepts(&built, &[]).ok(), Some(false));
-    assert_eq!(rt; accepts(&built, &[66]).ok(), Some(false));
-    assert_eq!(rt; accepts(&built, &[65, 65]).ok(), Some(false));
+    assert_eq!(rt; accepts(&built, &[65]), Ok(true));
+    assert_eq!(rt; accepts(&built, &[]), Ok(false));
+    assert_eq!(rt; accepts(&built, &[66]), Ok(false));
+    assert_eq!(rt; accepts(&built, &[65, 65]), Ok(false));
 }
 
 #[test]
@@ -154,6 +156,7 @@ fn the_empty_text_then_seven_met_with_seven(rt: HostRuntime) -> Result<(), Fail>
         },
         right: seven,
     };
+    // `let else`: `map_err` would let the `Stop` go as well.
     let Ok(joined) = concat::<Text>(&mut states, &mut arcs, join) else {
         return Err(Fail::new("no join"));
     };

@@ -1,6 +1,7 @@
 // The rows that the examples are made of.
 use automaton::{Arc, Marks, State};
 
+// As in `gauges`: a program and a crate of tests share no module.
 pub fn state(initial: bool, accepting: bool) -> State {
     State::from(Marks { initial, accepting })
 }

@@ -18,6 +18,7 @@ fn arc(from: usize, to: usize) -> Arc<TextLabel> {
     rows::arc(from, Text::full(), to)
 }
 
+// By number, since the numbers are promised; 98 and 99 are none of them.
 fn number(answer: Result<(), Refusal>) -> u32 {
     answer.err().map_or(0, Refusal::number)
 }
@@ -27,6 +28,7 @@ fn join(sheet: &mut Sheet, whole: usize, left: usize, right: usize) -> u32 {
 }
 
 // The answer to a table as a pattern of the part, for a sheet that keeps its rows in states and arcs.
+// Tables of their own and no struct: each test lends other lengths.
 fn give(
     sheet: &mut Sheet,
     states: &mut [State],
@@ -51,6 +53,7 @@ fn held(sheet: &Sheet) -> Rows {
 fn four() -> Sheet {
     let mut sheet = Sheet::new();
     for _ in 0..4 {
+        // `let _`: the parts are 0 to 3, and a sheet has room for 64.
         let _ = sheet.part();
     }
     sheet
@@ -62,7 +65,7 @@ fn parts_run_out_after_64(rt: HostRuntime) {
     for _ in 0..63 {
         assert!(rt; sheet.part().is_ok());
     }
-    assert_eq!(rt; sheet.part().ok(), Some(63));
+    assert_eq!(rt; sheet.part(), Ok(63));
     assert_eq!(rt; sheet.part(), Err(Refusal::Full));
     assert_eq!(rt; counts(&sheet), (64, 0, 0));
 }
@@ -270,7 +273,7 @@ fn clear_lets_go_of_everything(rt: HostRuntime) {
     assert_eq!(rt; counts(&sheet), (0, 0, 0));
     assert_eq!(rt; held(&sheet), Rows { states: 0, arcs: 0 });
     assert_eq!(rt; join(&mut sheet, 0, 1, 2), 1);
-    assert_eq!(rt; sheet.part().ok(), Some(0));
+    assert_eq!(rt; sheet.part(), Ok(0));
     // the tables have room again
     assert_eq!(rt; give(&mut sheet, &mut states, &mut arcs, 0, &two), 0);
 }

@@ -1,10 +1,11 @@
 // What solving answers on small sheets, and what it writes to the report and to the words.
 use crate::rows::{arc, state};
+use alphabet::RangedAlphabet;
 use alphabet::text::{Text, TextLabel};
-use alphabet::{Alphabet, RangedAlphabet};
 use automaton::{Arc, State};
 use build::{Place, Rows};
 use giver::fixed::FixedText;
+use giver::no_arc;
 use giver::table::Table;
 use sheet::{Join, Refusal, Sheet};
 use solve::{Row, Span, solve};
@@ -40,7 +41,7 @@ const MARKED: Row = Row {
 };
 
 // How many rows and letters of the tables are lent.
-#[derive(Clone, Copy)]
+#[derive(Clone, Copy, Debug, PartialEq, Eq)]
 struct Lent {
     states: usize,
     arcs: usize,
@@ -70,12 +71,13 @@ impl Desk {
     fn new(parts: usize) -> Desk {
         let mut sheet = Sheet::new();
         for _ in 0..parts {
+            // `let _`: no test here has more parts than a sheet has room for.
             let _ = sheet.part();
         }
         Desk {
             sheet,
             states: [State::default(); ROWS],
-            arcs: [arc(0, Text::full(), 0); ROWS],
+            arcs: [no_arc::<Text>(); ROWS],
             report: [MARKED; PARTS],
             words: [LETTER; LETTERS],
         }
@@ -114,7 +116,7 @@ impl Desk {
         )
     }
 
-    // The number of the refusal, and 0 where there is none.
+    // The number of the refusal, since the numbers are promised, and 0 where there is none.
     fn refusal(&mut self, lent: Lent) -> u32 {
         self.solve(lent).err().map_or(0, Refusal::number)
     }
@@ -132,7 +134,7 @@ impl Desk {
                 .is_some_and(|words| words.starts_with(letters))
     }
 
-    // Whether the rows of the report from there on are as they were.
+    // Whether the rows of the report from there on are as they were. Not one function over a slice: no test would be shorter.
     fn report_stays_from(&self, part: usize) -> bool {
         self.report.iter().skip(part).all(|row| *row == MARKED)
     }

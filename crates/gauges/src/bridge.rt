@@ -1,5 +1,4 @@
-// The bridge station's sheet, entered call by call or solved: its reply is an optional acknowledgement and then the
-// temperature, which is a number and its unit.
+// The bridge station's sheet, entered call by call or solved: its reply is an acknowledgement and a temperature.
 use crate::lines::Quoted;
 use crate::rows::table;
 use crate::solving;
@@ -16,6 +15,7 @@ use std::fmt::Write;
 // So many rows are lent while the sheet is entered.
 const ROWS: usize = 16;
 
+// Numbers, since a sheet gives its parts numbers and its joins name them so.
 const ACKNOWLEDGEMENT: usize = 0;
 
 const NUMBER: usize = 1;
@@ -71,7 +71,7 @@ impl<T: fmt::Display> fmt::Display for Answer<T> {
     }
 }
 
-// The sheet and the tables that are lent to its calls.
+// The sheet and the tables that are lent to its calls. The tests have one of their own, since `gauges` is a program.
 #[derive(Drop)]
 struct Bridge {
     sheet: Sheet,
@@ -156,6 +156,7 @@ pub fn record(heap: Global) -> Result<String, AllocError> {
 // The record of solving the sheet, once it is entered, in larger tables.
 pub fn solved_record(heap: Global) -> Result<String, AllocError> {
     let mut bridge = Bridge::new();
+    // The text of the calls is let go: `record` prints it.
     bridge.enter(&mut String::new(heap))?;
     let mut states = table(heap, &bridge.states, State::default())?;
     let mut arcs = table(heap, &bridge.arcs, no_arc::<Text>())?;

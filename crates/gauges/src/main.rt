@@ -1,6 +1,4 @@
-// Holds replies, one to a line of standard input, against the weir station's wait, a fixed text, and what the
-// station sends: an optional acknowledgement and then the level. Then enters the bridge station's sheet. Asked to
-// solve, it solves the sheets of the weir and the bridge station instead.
+// Holds replies against what the weir station waits for and sends, then enters the bridge's sheet; or solves both sheets.
 #![tactic(auto)]
 
 mod bridge;
@@ -18,8 +16,8 @@ use std::fmt::Write;
 use std::io::Read;
 use std::{env, fmt};
 
-// What each pattern says of a reply.
-#[derive(Clone, Copy)]
+// What each pattern says of a reply. Four names and no array: each is printed under a word of its own.
+#[derive(Clone, Copy, Debug, PartialEq, Eq)]
 struct Judged {
     wait: bool,
     text: bool,
@@ -51,7 +49,7 @@ fn judge(replies: &Replies, word: &[u32]) -> Judged {
 }
 
 // How many replies were read, and how many of them each pattern accepted.
-#[derive(Clone, Copy, Default)]
+#[derive(Clone, Copy, Debug, PartialEq, Eq, Default)]
 struct Tally {
     read: usize,
     wait: usize,
@@ -87,9 +85,9 @@ impl fmt::Display for Tally {
     }
 }
 
-fn size_line(heap: Global, name: &str, place: Place) -> Result<String, AllocError> {
+fn record_size(out: &mut String, name: &str, place: Place) -> Result<(), AllocError> {
     let Rows { states, arcs } = place.count;
-    format!(in heap; "{name}: {states} states, {arcs} arcs\n")
+    writeln!(out, "{name}: {states} states, {arcs} arcs")
 }
 
 // A line for each reply, and what they come to.
@@ -109,11 +107,13 @@ fn replies_of(heap: Global, replies: &Replies, input: &[u8]) -> Result<String, A
 
 // The record of an input.
 fn record(heap: Global, input: &[u8]) -> Result<String, AllocError> {
+    // The record does not name the table that is full.
     let Ok(replies) = Replies::new() else {
         return String::from_str(heap, "out of room\n");
     };
-    let mut out = size_line(heap, "acknowledgement and level joined", replies.joined)?;
-    out.push_str(size_line(heap, "met with the wait", replies.met)?.as_str())?;
+    let mut out = String::new(heap);
+    record_size(&mut out, "acknowledgement and level joined", replies.joined)?;
+    record_size(&mut out, "met with the wait", replies.met)?;
     out.push_str(replies_of(heap, &replies, input)?.as_str())?;
     Ok(out)
 }

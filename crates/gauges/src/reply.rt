@@ -1,6 +1,6 @@
 // The weir's reply as a join: an optional acknowledgement and then the level, met with the wait.
 use crate::rows::ROWS;
-use crate::weir::{LEVEL, sign_arcs, sign_states, takes, wait_arcs, wait_states};
+use crate::weir::{self, sign_arcs, sign_states, takes, wait_arcs, wait_states};
 use alphabet::modem::{Modem, ModemLabel};
 use automaton::{Arc, State};
 use build::concat::concat;
@@ -11,13 +11,13 @@ use giver::table::Table;
 use giver::{Giver, no_arc};
 use std::array;
 
-// The rows of the acknowledgement, then those of the level, then those of the wait.
+// The rows of the acknowledgement, the level and the wait: numbers, so that the place of the next can be seen.
 const SIGN: Place = Place {
     first: Rows { states: 0, arcs: 0 },
     count: Rows { states: 2, arcs: 1 },
 };
 
-const TEXT: Place = Place {
+const LEVEL: Place = Place {
     first: Rows { states: 2, arcs: 1 },
     count: Rows { states: 5, arcs: 4 },
 };
@@ -27,7 +27,7 @@ const WAIT: Place = Place {
     count: Rows { states: 2, arcs: 2 },
 };
 
-// Behind the acknowledgement, the level and the wait lie their join and what is met with the wait.
+// Behind the rows of the three lie the join of the first two, and what that is when it is met with the wait.
 #[derive(Drop)]
 pub struct Replies {
     states: [State; ROWS],
@@ -38,12 +38,12 @@ pub struct Replies {
 
 // The rows of the level, as its giver tells them.
 fn level_states() -> [State; 5] {
-    let level = FixedText::new::<Modem>(&LEVEL);
+    let level = FixedText::new::<Modem>(&weir::LEVEL);
     array::from_fn(|q| State::from(Giver::<Modem>::marks(&level, q)))
 }
 
 fn level_arcs() -> [Arc<ModemLabel>; 4] {
-    let level = FixedText::new::<Modem>(&LEVEL);
+    let level = FixedText::new::<Modem>(&weir::LEVEL);
     array::from_fn(|k| Giver::<Modem>::arc(&level, k))
 }
 
@@ -70,7 +70,7 @@ impl Replies {
         let join = Operands {
             used: WAIT.end(),
             left: SIGN,
-            right: TEXT,
+            right: LEVEL,
         };
         let joined = concat::<Modem>(&mut states, &mut arcs, join)?;
         let meet = Operands {

@@ -7,6 +7,7 @@ use std::alloc::{AllocError, Global};
 // So many rows has a table in which builds are made.
 pub const ROWS: usize = 64;
 
+// As in `checks`: a program and a crate of tests share no module.
 pub fn state(initial: bool, accepting: bool) -> State
     ensures marked { result ≡ record { marks = record { initial = initial; accepting = accepting }; left = 0; right = 0 } }
 {

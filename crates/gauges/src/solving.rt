@@ -1,5 +1,4 @@
-// The record of solving a sheet: the verdict, the rows of all builds, and for each part its word and the rows of its
-// automaton. The weir station's sheet is entered here.
+// The record of solving a sheet, and the weir station's sheet.
 ghost use Rattle.std.specs.Prelude.{◌≡◌, ◌+◌, ◌≤◌, length, IfOk, string_bytes};
 ghost use Rattle.solve.specs.Report.{word_at};
 ghost use Rattle.gauges.specs.Shown.{verdict_line, refused_line};
@@ -21,6 +20,7 @@ use verdict::{Solved, Verdict};
 
 const LETTERS: usize = 16;
 
+// This line and `refused_line` make a text, since their contracts say what its bytes are.
 fn verdict_line(heap: Global, station: &str, solved: Solved) -> Result<String, AllocError>
     ensures says { IfOk result (λ s. string_bytes s ≡ verdict_line station.now solved) }
 {
@@ -38,7 +38,7 @@ fn letters(words: &[u32], word: Span) -> &[u32]
     words.get(word.first..end).unwrap_or(&[])
 }
 
-// A line for each part.
+// A line for each part. Names are apart from the report, since `solve` takes the report as a slice of rows.
 fn part_lines(
     heap: Global,
     names: &[&str],
@@ -60,6 +60,7 @@ fn part_lines(
     Ok(out)
 }
 
+// A refusal becomes a line of the record, no error.
 fn refused_line(heap: Global, station: &str, refusal: Refusal) -> Result<String, AllocError>
     ensures says { IfOk result (λ s. string_bytes s ≡ refused_line station.now refusal) }
 {
