@@ -141,7 +141,7 @@ mod patterns {
         arc(from, Text::range(65, 65), to)
     }
 
-    // The number of the refusal, and 0 where there is none.
+    // The number of the refusal, since the numbers are promised, and 0 where there is none.
     fn refusal<'a>(states: &'a [State], arcs: &'a [Arc<TextLabel>]) -> u32 {
         let table: Table<'a, Text> = Table { states, arcs };
         accepts(&table, &[65]).err().map_or(0, Refusal::number)

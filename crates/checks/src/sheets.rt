@@ -23,6 +23,7 @@ fn number(answer: Result<(), Refusal>) -> u32 {
     answer.err().map_or(0, Refusal::number)
 }
 
+// Three numbers, in the order of x = y + z.
 fn join(sheet: &mut Sheet, whole: usize, left: usize, right: usize) -> u32 {
     number(sheet.join(Join { whole, left, right }))
 }

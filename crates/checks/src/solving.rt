@@ -83,6 +83,7 @@ impl Desk {
         }
     }
 
+    // Not one generic function with `table`: a test would have to make the fixed text.
     fn text(&mut self, rt: &impl Abort, part: usize, letters: &[u32]) {
         let text = FixedText::new::<Text>(letters);
         let answer = self
@@ -98,6 +99,7 @@ impl Desk {
         assert!(rt; answer.is_ok());
     }
 
+    // Three numbers, in the order of x = y + z.
     fn join(&mut self, rt: &impl Abort, whole: usize, left: usize, right: usize) {
         assert!(rt; self.sheet.join(Join { whole, left, right }).is_ok());
     }
@@ -134,7 +136,7 @@ impl Desk {
                 .is_some_and(|words| words.starts_with(letters))
     }
 
-    // Whether the rows of the report from there on are as they were. Not one function over a slice: no test would be shorter.
+    // Whether the rows of the report from there on are as they were; rows and letters are of other types.
     fn report_stays_from(&self, part: usize) -> bool {
         self.report.iter().skip(part).all(|row| *row == MARKED)
     }

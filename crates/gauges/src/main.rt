@@ -1,4 +1,4 @@
-// Holds replies against what the weir station waits for and sends, then enters the bridge's sheet; or solves both sheets.
+// Holds replies against the weir station's patterns and enters the bridge's sheet, or solves both stations' sheets.
 #![tactic(auto)]
 
 mod bridge;
@@ -25,6 +25,7 @@ struct Judged {
     met: bool,
 }
 
+// Not `Display`: that of `bool` says true and false.
 fn yes_no(b: bool) -> &'static str {
     if b { "yes" } else { "no" }
 }
@@ -90,7 +91,7 @@ fn record_size(out: &mut String, name: &str, place: Place) -> Result<(), AllocEr
     writeln!(out, "{name}: {states} states, {arcs} arcs")
 }
 
-// A line for each reply, and what they come to.
+// A line for each reply, and what they come to: a text of its own, which tests hold.
 fn replies_of(heap: Global, replies: &Replies, input: &[u8]) -> Result<String, AllocError> {
     let mut out = String::new(heap);
     let mut tally = Tally::default();
@@ -118,6 +119,7 @@ fn record(heap: Global, input: &[u8]) -> Result<String, AllocError> {
     Ok(out)
 }
 
+// Two runs, two functions: only this one reads input.
 fn hold_replies(rt: &HostRuntime) -> anyhow::Result<()> {
     let mut input = Vec::new(rt.alloc());
     rt.stdin().read_to_end(&mut input)?;
@@ -160,6 +162,7 @@ mod tests {
     use super::*;
     use std::test::Fail;
 
+    // `let else`, since a `Fail` is made of a text and not of a `Stop`.
     #[test]
     fn an_empty_input_has_no_reply(rt: HostRuntime) -> Result<(), Fail> {
         let Ok(replies) = Replies::new() else {

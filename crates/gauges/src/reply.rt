@@ -47,6 +47,7 @@ fn level_arcs() -> [Arc<ModemLabel>; 4] {
     array::from_fn(|k| Giver::<Modem>::arc(&level, k))
 }
 
+// States and arcs each in a function: they have other types and other counts.
 fn states() -> [State; ROWS] {
     let mut states = [State::default(); ROWS];
     states[0..2].copy_from_slice(&sign_states());

@@ -14,7 +14,7 @@ pub fn state(initial: bool, accepting: bool) -> State
     State::from(Marks { initial, accepting })
 }
 
-// A table of 64 rows that begins with these.
+// A table of 64 rows that begins with these; a contract writes the number of a constant.
 pub fn table<T: Copy + Drop>(heap: Global, rows: &[T], spare: T) -> Result<Vec<T>, AllocError>
     ensures fills { IfOk result (λ v. v.items ≡ take 64 rows.now ++ replicate (64 - length rows.now) spare) }
 {

@@ -30,7 +30,7 @@ fn verdict_line(heap: Global, station: &str, solved: Solved) -> Result<String, A
     format!(in heap; "{station} sheet: {verdict}, {states} states and {arcs} arcs built\n")
 }
 
-// The letters of a word; none where it does not lie in the table.
+// The letters of a word; none where it does not lie in the table. Nothing else here asks where a span ends.
 fn letters(words: &[u32], word: Span) -> &[u32]
     ensures reads { word.first + word.len ≤ length words.now → result.now ≡ word_at words.now word }
 {
