@@ -40,7 +40,7 @@ const MARKED: Row = Row {
     },
 };
 
-// How many rows and letters of the tables are lent.
+// How many rows and letters of the tables are lent. Four names and no array: a test changes one of them.
 #[derive(Clone, Copy, Debug, PartialEq, Eq)]
 struct Lent {
     states: usize,

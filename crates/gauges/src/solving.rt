@@ -92,6 +92,7 @@ pub fn record<A: Alphabet>(
     }
 }
 
+// The tables of the wait and the sign borrow rows that are made here, so no function hands one out.
 // Enters the weir station's sheet: an optional acknowledgement and then the level, which is what the logger waits for.
 fn enter_weir(
     sheet: &mut Sheet,
