@@ -1,5 +1,5 @@
 -- What a sheet holds, and what each call answers and leaves.
-use Rattle.std.specs.Prelude.{◌≡◌, ℕ, ◌+◌, ◌<◌, List, [], ◌∷◌, ◌++◌, map, length, Ok, Err, Result}
+use Rattle.std.specs.Prelude.{◌≡◌, ℕ, ◌+◌, ◌<◌, List, [], ◌∷◌, ◌++◌, map, length, drop, Ok, Err, Result}
 use Rattle.automaton.specs.declared.Arc.{Arc}
 use Rattle.automaton.specs.declared.State.{State}
 use Rattle.automaton.specs.Automaton.{Automaton, Inside, plain}
@@ -90,12 +90,14 @@ with_pattern s p m = record {
   held = rows (s.held.states + length m.states) (s.held.arcs + length m.arcs);
 }
 
--- the held rows stay, and the rows of m come behind them
+-- the held rows stay, the rows of m come behind them, and the rows behind those are as they were
 pub record Copied {L : Type 0} (held : Rows) (m : Automaton L) (states states' : List State) (arcs arcs' : List (Arc L)) : Type 0 where
   pub states_kept : Kept held.states states states'
   pub arcs_kept : Kept held.arcs arcs arcs'
   pub states_are : part states' held.states (length m.states) ≡ map plain m.states
   pub arcs_are : part arcs' held.arcs (length m.arcs) ≡ m.arcs
+  pub states_behind : drop (held.states + length m.states) states' ≡ drop (held.states + length m.states) states
+  pub arcs_behind : drop (held.arcs + length m.arcs) arcs' ≡ drop (held.arcs + length m.arcs) arcs
 
 abbrev pub PatternAnswer : {L : Type 0} → View → List State → List (Arc L) → ℕ → Automaton L → View → List State → List (Arc L) → Result (Unit {0}) Refusal → Type 0
 PatternAnswer s states arcs p m t states' arcs' (Ok u) = AllHold (pattern_checks s states arcs p m) × (t ≡ with_pattern s p m) × Copied s.held m states states' arcs arcs'

@@ -1,5 +1,5 @@
 // The rows of a pattern: whether they fit in the tables, and writing them.
-ghost use Rattle.std.specs.Prelude.{ℕ, ◌+◌, ◌<◌, ◌≤◌, length, slice_index_or, Decides};
+ghost use Rattle.std.specs.Prelude.{◌≡◌, ℕ, ◌+◌, ◌<◌, ◌≤◌, length, drop, slice_index_or, Decides};
 ghost use Rattle.build.specs.Tables.{part, InUse, Kept};
 
 use automaton::{Arc, State};
@@ -20,6 +20,7 @@ pub fn write_rows<T: Copy, F: Fn(usize) -> T>(rows: &mut [T], at: usize, count: 
     requires callable { F.IsAlwaysCallable row }
     requires room { at + count ≤ length rows.old }
     ensures keeps { Kept at rows.old rows.new }
+    ensures behind { drop (at + count) rows.new ≡ drop (at + count) rows.old }
     ensures writes { (k : ℕ) (d : T) → k < count → F.post row k (slice_index_or (part rows.new at count) k d) }
 {
     for k in 0..count {

@@ -1,4 +1,4 @@
-use Rattle.std.proofs.Common.{◌≡◌, ℕ, ◌+◌, ◌<◌, [], ◌∷◌, ◌++◌, map, length, get_or, min, ap, arith, rules, refl, sym, ◌∙◌}
+use Rattle.std.proofs.Common.{◌≡◌, ℕ, ◌+◌, ◌<◌, [], ◌∷◌, ◌++◌, map, length, drop, get_or, min, ap, arith, rules, refl, sym, ◌∙◌, subst}
 use Rattle.std.proofs.lemmas.List.{get_or-map, length-map}
 use Rattle.automaton.specs.declared.Arc.{Arc}
 use Rattle.automaton.specs.Automaton.{plain, unmarked}
@@ -50,6 +50,8 @@ returns g c =
           arcs_kept = assumption;
           states_are = ap (part c.write_rows.new.rows s.held.states) (sym states) ∙ rows_are _ (map plain m.states) s.held.states c.state_count.result (plain unmarked) (states ∙ sym (length-map m.states plain)) (omega arith) (λ k low. state k low ∙ sym (get_or-map plain m.states k unmarked (plain unmarked) (omega arith)));
           arcs_are = ap (part c.write_rows-2.new.rows s.held.arcs) (sym arcs) ∙ rows_are _ m.arcs s.held.arcs c.arc_count.result full arcs (omega arith) arc;
+          states_behind = subst (λ n. drop (s.held.states + n) c.write_rows.new.rows ≡ drop (s.held.states + n) c.args.states.now) states c.write_rows.ensures.behind;
+          arcs_behind = subst (λ n. drop (s.held.arcs + n) c.write_rows-2.new.rows ≡ drop (s.held.arcs + n) c.args.arcs.now) arcs c.write_rows-2.ensures.behind;
         },
       );
     }
