@@ -109,10 +109,10 @@ mod patterns {
             states: &[state(true, true)],
             arcs: &[on_a(0, 0)],
         };
+        // field by field, so that each value can be seen
         let marks = table.marks(99);
         assert!(rt; !marks.initial);
         assert!(rt; !marks.accepting);
-        // field by field, so that the numbers can be seen
         let arc = table.arc(99);
         assert_eq!(rt; arc.from, 0);
         assert_eq!(rt; arc.to, 0);

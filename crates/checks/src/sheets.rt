@@ -50,7 +50,7 @@ fn held(sheet: &Sheet) -> Rows {
     sheet.counts().held
 }
 
-// A sheet of four parts.
+// A sheet of four parts, without tables: each test has its own.
 fn four() -> Sheet {
     let mut sheet = Sheet::new();
     for _ in 0..4 {

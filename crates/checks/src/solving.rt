@@ -56,7 +56,7 @@ const ALL: Lent = Lent {
     words: LETTERS,
 };
 
-// A sheet, and the tables for its calls.
+// A sheet, and the tables for its calls. As in `gauges`: a program and a crate of tests share no module.
 #[derive(Drop)]
 struct Desk {
     sheet: Sheet,
@@ -67,7 +67,7 @@ struct Desk {
 }
 
 impl Desk {
-    // A sheet of so many parts.
+    // A sheet of so many parts, with tables of its own.
     fn new(parts: usize) -> Desk {
         let mut sheet = Sheet::new();
         for _ in 0..parts {

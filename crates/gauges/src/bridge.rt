@@ -55,7 +55,7 @@ const JOINS: [Join; 3] = [
     },
 ];
 
-// The answer to a call as it is printed: what it gave, or the number of its refusal. `refused_line` is of a sheet.
+// The answer to a call as it is printed: what it gave, or the number of its refusal. `refused_line` says the number itself, under a contract.
 #[derive(Drop)]
 struct Answer<T>(Result<T, Refusal>);
 

@@ -162,7 +162,7 @@ mod tests {
     use super::*;
     use std::test::Fail;
 
-    // `let else`, since a `Fail` is made of a text and not of a `Stop`.
+    // `let else`: `map_err` would let the `Stop` go as well.
     #[test]
     fn an_empty_input_has_no_reply(rt: HostRuntime) -> Result<(), Fail> {
         let Ok(replies) = Replies::new() else {

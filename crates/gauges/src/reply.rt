@@ -36,7 +36,7 @@ pub struct Replies {
     pub met: Place,
 }
 
-// The rows of the level, as its giver tells them.
+// The rows of the level, as its giver tells them. States and arcs apart, here and below: they have other types and counts.
 fn level_states() -> [State; 5] {
     let level = FixedText::new::<Modem>(&weir::LEVEL);
     array::from_fn(|q| State::from(Giver::<Modem>::marks(&level, q)))
@@ -47,7 +47,6 @@ fn level_arcs() -> [Arc<ModemLabel>; 4] {
     array::from_fn(|k| Giver::<Modem>::arc(&level, k))
 }
 
-// States and arcs each in a function: they have other types and other counts.
 fn states() -> [State; ROWS] {
     let mut states = [State::default(); ROWS];
     states[0..2].copy_from_slice(&sign_states());

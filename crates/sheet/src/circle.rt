@@ -7,7 +7,7 @@ use crate::marking::{PartSet, unsettled};
 
 // Whether the whole of the join is at or below its left or its right part.
 // A part goes in by a call of its own: one call for both would be a public function more, and no plainer.
-// 64 is `MAX_PARTS` and `MAX_JOINS`, as a number, as in every contract.
+// 64 is `MAX_PARTS`: a contract writes a limit as a number.
 pub fn closes(joins: &[Join], join: Join) -> bool
     requires known { Known 64 joins.now }
     requires left_known { join.left < 64 }

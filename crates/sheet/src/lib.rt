@@ -28,14 +28,14 @@ pub struct Counts {
     pub held: Rows,
 }
 
-// A held pattern: the part that it limits, and where its rows lie.
+// A held pattern: the part that it limits, and where its rows lie. By numbers: the rows are lent, and nothing owns them.
 #[derive(Clone, Copy, Debug, PartialEq, Eq, Default)]
 pub struct Held {
     pub part: usize,
     pub place: Place,
 }
 
-// The word of the whole is that of the left followed by that of the right.
+// The word of the whole is that of the left followed by that of the right. By numbers, as a sheet gives its parts.
 #[derive(Clone, Copy, Debug, PartialEq, Eq, Default)]
 pub struct Join {
     pub whole: usize,

@@ -169,7 +169,7 @@ impl<A: Alphabet> Tables<'_, '_, A> {
         let joins = sheet.joins();
         let mut finished = ArrayVec::new();
         while let Some(part) = next(parts, joins, &finished) {
-            // two arms: `map_err` with a closure that takes the part, and `?`, is no plainer
+            // two arms: with `map_err` and `?` the place would need a name of its own
             match self.build_part(patterns, joins, &finished, part) {
                 Ok(place) => finished.push(Held { part, place }),
                 Err(halt) => return Err(halt.at(part)),

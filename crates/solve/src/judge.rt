@@ -15,7 +15,7 @@ use build::Rows;
 use sheet::{Held, Join};
 use verdict::{Table, Verdict};
 
-// Below `judge` tables, report and words stay parameters: some functions write the words and some only read them.
+// What `judge` calls takes tables, report and words as parameters: some of it writes the words, some only reads them.
 // Their facts stand at each function: they are of rows and report together, and no type holds both.
 
 // Finds a word for each part: for a root a word that its automaton accepts, for any other a piece of its root's word.

@@ -28,7 +28,7 @@ mod rooting;
 mod roots;
 mod tables;
 
-// Where a word lies in the words table.
+// Where a word lies in the words table. By numbers, as all that lies in lent tables.
 #[derive(Clone, Copy, Debug, PartialEq, Eq, Default)]
 pub struct Span {
     pub first: usize,
@@ -83,7 +83,7 @@ pub fn solve<A: Alphabet>(
     }
     let (used, ended) = build_all::<A>(sheet, states, arcs);
     let totals = totals(counts.held, used);
-    // each arm gives its own answer: a `let` of the verdict over both arms is no plainer
+    // two ends: behind the first the report may be written, behind the second nothing was
     match ended {
         Ok(finished) => {
             let verdict = judge::<A>(

@@ -96,6 +96,7 @@ pub fn place_pieces<A: Alphabet>(
     let mut placed = roots(plan);
     while let Some(join) = unsettled(plan.joins, &placed) {
         split_join::<A>(states, arcs, used, report, words, join);
+        // one call each, as in `circle` of `sheet`
         placed.insert(join.left);
         placed.insert(join.right);
     }

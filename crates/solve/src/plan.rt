@@ -4,7 +4,7 @@ ghost use Rattle.sheet.specs.Joins.{Acyclic, Known};
 
 use sheet::Join;
 
-// Joins without a circle between so many parts.
+// Joins without a circle between so many parts. 64 is `MAX_PARTS` and `MAX_JOINS`: a contract writes a limit as a number.
 #[derive(Drop)]
 pub struct Plan<'a> {
     pub joins: &'a [Join],
