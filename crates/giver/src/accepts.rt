@@ -6,7 +6,6 @@ ghost use Rattle.giver.specs.Told.{Sound, Checked};
 
 use crate::{Giver, Refusal};
 use alphabet::Alphabet;
-use std::array;
 
 pub const MAX_STATES: usize = 256;
 
@@ -43,7 +42,12 @@ fn start<A: Alphabet, G: Giver<A>>(giver: &G) -> StateSet
     requires { Sound (G.Giver.automaton giver.now) }
     ensures reaches { Reached A.Alphabet.labels.admits (G.Giver.automaton giver.now) [] result }
 {
-    array::from_fn(|q| giver.marks(q).initial)
+    // a loop: a closure over all 256 marks would ask each automaton for 256 states
+    let mut set = [false; MAX_STATES];
+    for q in 0..giver.state_count() {
+        set[q] = giver.marks(q).initial;
+    }
+    set
 }
 
 fn step<A: Alphabet, G: Giver<A>>(giver: &G, before: &StateSet, letter: u32) -> StateSet
@@ -65,6 +69,7 @@ fn some_accepts<A: Alphabet, G: Giver<A>>(giver: &G, set: &StateSet) -> bool
     ensures decides { Decides result (SomeAccepts (G.Giver.automaton giver.now) set.now) }
 {
     set.iter()
+        .take(giver.state_count())
         .enumerate()
         .any(|(q, reached)| *reached && giver.marks(q).accepting)
 }

@@ -44,13 +44,14 @@ impl<'a, A: RangedAlphabet> Giver<A> for FixedText<'a> {
 
     #[tactic(auto, using(crate::proofs::Chain::chain_arc_at, crate::proofs::Chain::chain_arc_past))]
     fn arc(&self, k: usize) -> Arc<A::Label> {
-        self.letters.get(k).map_or(
-            no_arc::<A>(),
-            |letter| Arc {
+        // two arms, as in `Table`
+        match self.letters.get(k) {
+            Some(letter) => Arc {
                 from: k,
                 label: A::range(*letter, *letter),
                 to: k + 1,
             },
-        )
+            None => no_arc::<A>(),
+        }
     }
 }

@@ -29,6 +29,10 @@ impl<'a, A: Alphabet> Giver<A> for Table<'a, A> {
     }
 
     fn arc(&self, k: usize) -> Arc<A::Label> {
-        self.arcs.get(k).copied().unwrap_or(no_arc::<A>())
+        // two arms, and no default: an alphabet may have to work for its full label
+        match self.arcs.get(k) {
+            Some(row) => *row,
+            None => no_arc::<A>(),
+        }
     }
 }
