@@ -159,9 +159,12 @@ module _ {L : Type 0} (a : Labels L) (m k : Automaton L) where
   state_rows_long : length (state_rows m k) ≡ n₁ + n₂
   state_rows_long = sym (length-map (state_rows m k) (λ (r : State). r.marks)) ∙ ap (λ l. length l) marks_joined ∙ joined_long
 
-  -- rows that do not fit
+  -- states that do not fit, and rows that do not
+  pub sides_over : (room : ℕ) → room < n₁ + n₂ → MoreThan (concats a m k).State room (side_of n₁)
+  sides_over = numbers_more sides
+
   pub states_over : (room : ℕ) → room < length (state_rows m k) → MoreThan (concats a m k).State room (side_of n₁)
-  states_over room low = numbers_more sides room (omega (arith, state_rows_long))
+  states_over room low = sides_over room (omega (arith, state_rows_long))
 
   pub arcs_over : (room : ℕ) → room < length (arc_rows m k) → MoreThan (concats a m k).Arrow room (λ i. get_or (links a m k) i (inl 0))
   arcs_over room low = numbers_more (lists_numbers (links a m k) (inl 0) (links_listed a m k)) room (omega (arith, ap (λ l. length l) (links_rows a m k), length-map (links a m k) (row a m k)))

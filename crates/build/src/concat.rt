@@ -135,6 +135,10 @@ impl<A: Alphabet> Operation<A> for Concatenation {
         states: &mut [State],
         arcs: &mut [Arc<A::Label>],
     ) -> Result<Rows, Stop> {
+        // counted first: of states that do not fit none is written
+        if inputs.left.state_count() + inputs.right.state_count() > states.len() {
+            return Err(Stop::StatesFull);
+        }
         let mut states = Tail::new(states);
         inputs
             .put_states(&mut states)

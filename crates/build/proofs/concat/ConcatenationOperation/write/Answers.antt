@@ -1,6 +1,11 @@
-use Rattle.std.proofs.Common.{rules}
-use Rattle.build.proofs.Concatenating.{states_full, arcs_full, rows_fit}
+use Rattle.std.proofs.Common.{rules, length, arith}
+use Rattle.build.proofs.Concatenating.{sides_over, states_full, arcs_full, rows_fit}
 use Rattle.build.proofs.concat.ConcatenationOperation.write.Goals as goal
+
+pub returns-then-state_count-states : goal.returns-then-state_count-states
+returns-then-state_count-states g c = record {
+  fits = (_, sides_over g.A.Alphabet.labels c.args.inputs.now.left c.args.inputs.now.right (length c.args.states.now) (omega (arith, c.state_count.ensures.counts, c.state_count-2.ensures.counts, c.if-state_count-states.true)));
+}
 
 pub returns-in_err-map_err : goal.returns-in_err-map_err
 returns-in_err-map_err g c = record {
