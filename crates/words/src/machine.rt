@@ -15,20 +15,20 @@ pub struct Machine<'a, L> {
 impl<L: Copy> Machine<'_, L> {
     ghost use Rattle.words.specs.Machines.{SameMachine};
 
-    // The first number of each row becomes what a function says of the row, and the second 0.
-    pub fn renumber<F: Fn(State) -> usize>(&mut self, number: F)
+    // The two numbers of each row become what a function says of the row.
+    pub fn renumber<F: Fn(State) -> (usize, usize)>(&mut self, number: F)
         requires callable { F.IsAlwaysCallable number }
-        ensures numbers { (q : ℕ) → q < length self.old.states.now → F.post number (row self.old.states.now q) (row self.new.states.now q).left }
-        ensures clears { (q : ℕ) → q < length self.old.states.now → (row self.new.states.now q).right ≡ 0 }
+        ensures numbers { (q : ℕ) → q < length self.old.states.now → F.post number (row self.old.states.now q) ((row self.new.states.now q).left, (row self.new.states.now q).right) }
         ensures same { SameMachine self.old self.new }
     {
         let states = &mut *self.states;
         // by index: of rows that are written through `iter_mut` a proof knows nothing
         for q in 0..states.len() {
             let state = states[q];
+            let (left, right) = number(state);
             states[q] = State {
-                left: number(state),
-                right: 0,
+                left,
+                right,
                 ..state
             };
         }

@@ -20,7 +20,7 @@ impl<L: Copy> Machine<'_, L> {
         ensures begins { Begun (automaton self.old) self.new.states.now }
         ensures same { SameMachine self.old self.new }
     {
-        self.renumber(|state| usize::from(state.marks.initial));
+        self.renumber(|state| (usize::from(state.marks.initial), 0));
     }
 
     // Puts the states to which arcs lead on the letter from states of the set into the next set.
@@ -42,7 +42,7 @@ impl<L: Copy> Machine<'_, L> {
         ensures advances { Advanced self.old.states.now self.new.states.now }
         ensures same { SameMachine self.old self.new }
     {
-        self.renumber(|state| state.right);
+        self.renumber(|state| (state.right, 0));
     }
 
     // Runs the automaton along the word.

@@ -42,12 +42,12 @@ fn letter<A: Alphabet>(label: &A::Label) -> u32
 }
 
 impl<L: Copy> Machine<'_, L> {
-    // Gives the accepting states the layer 1, and the others none.
+    // Gives the accepting states the layer 1, and the others none. The second numbers stay.
     fn begin_layers(&mut self)
         ensures begins { Begun (automaton self.old) (length self.old.states.now) (layer self.new.states.now) }
         ensures same { SameMachine self.old self.new }
     {
-        self.renumber(|state| usize::from(state.marks.accepting));
+        self.renumber(|state| (usize::from(state.marks.accepting), state.right));
     }
 
     // Gives the next layer to each state without one from which an arc with a letter leads to the layer `top`.

@@ -10,5 +10,5 @@ returns-clause-advances g c =
     let long : length new ≡ length old = length_marks old new e.same.marks in
     record {
       set = λ q low. let h = e.numbers q low in search rules;
-      clear = λ q low. e.clears q (omega arith);
+      clear = λ q low. let h = e.numbers q (omega arith) in search rules;
     }
